@@ -8,6 +8,7 @@ line says how many have passed and failed.
 """
 
 import os
+import resource
 import subprocess
 import sys
 
@@ -18,6 +19,7 @@ LEAST = -(2**63)
 STEPS = 1_024  # that a timeline keeps
 LINE = 4_096  # bytes of a line
 ROWS = 131_072  # of a timeline
+PRESENT_MEMORY = 24 << 20  # bytes that a full priority queue and a listing of it take with room; its past takes 159 megabytes
 
 
 def more_steps_than_are_kept():
@@ -81,6 +83,9 @@ def a_row_line_that_is_too_long():
     yield "#1 5 enq 1", None
     yield (LINE + 1) * " ", None
     yield "end", "refused row 2 syntax"
+    yield "timeline q queue next 2", None
+    yield ";" + LINE * " ", None
+    yield "end", "refused row 1 syntax"
 
 
 def a_timeline_of_many_rows():
@@ -143,6 +148,33 @@ def labels_of_a_dictionary_that_are_used_up():
     yield "d delete #%d" % rows[3], "ok"
     yield "d ask after #%d get 1" % rows[4], "= 139"
     yield "d ask after #%d get 1" % rows[5], "= 135"
+
+
+def rows_of_a_dictionary_before_all_others():
+    """Forty-one rows of key 1, each of which comes in before all others, and after eight of key 2 at the end, so that none came in lately
+    beside it. Each halves the gap before the first label, from 2^39 down to 1: so the 41st finds none, and all rows get new ones. The
+    row that comes in so as number 9 n + 1 puts n."""
+    last = 9 * 40 + 1
+    yield "new d dict", "ok"
+    for number in range(1, last + 1):
+        step, others = divmod(number - 1, 9)
+        where = "at 0 put 2 %d" % others if others else "before #%d put 1 %d" % (number - 9, step) if step else "at 0 put 1 0"
+        yield "d " + where, "ok #%d" % number
+    for step in range(41):
+        yield "d ask before #%d all" % (9 * step + 1), "= empty" if step == 40 else "= 1:%d" % (step + 1)
+        yield "d ask after #%d get 1" % (9 * step + 1), "= %d" % step
+    for number in range(2, 10):
+        yield "d ask after #%d all" % number, "= 1:0 2:%d" % (number - 1)
+    yield "d ask all", "= 1:0 2:8"
+    # They are edited: key 1 is deleted before all its rows, and after the first of them.
+    yield "d before #%d del 1" % last, "refused at #%d 0" % (last + 1)
+    yield "d after #%d del 1" % last, "ok #%d" % (last + 1)
+    yield "d after #%d del 1" % last, "refused at #%d 0" % (last + 1)
+    yield "d ask after #%d size" % (last + 1), "= 0"
+    yield "d ask after #%d get 1" % (last - 9), "= 39"
+    yield "d delete #%d" % (last - 9), "ok"
+    yield "d ask after #%d get 1" % (last + 1), "= none"
+    yield "d ask after #%d get 1" % (last - 18), "= 38"
 
 
 def many_rows_of_a_dictionary_at_one_place():
@@ -227,6 +259,16 @@ def a_full_priority_queue():
     yield "p at 1 ins 0", "refused full"
 
 
+def a_present_that_is_asked(past=()):
+    """Of as many rows as a timeline may have: whoever asks behind the last row makes no checkpoint, in whatever words."""
+    yield from entries(ROWS)
+    yield "p ask at %d all" % ROWS, "=" + "".join(" %d" % key for key in range(1, ROWS + 1))
+    yield "p ask all", "=" + "".join(" %d" % key for key in range(1, ROWS + 1))
+    yield "p ask after #%d min" % ROWS, "= 1"
+    yield "p ask at %d nth 131071" % ROWS, "= 131072"
+    yield from past
+
+
 def a_full_fused_queue():
     """Of as many rows as a timeline may have, all of which stay: questions about its past, edits of its middle, and no further row."""
     yield from entries(ROWS, "pqf")
@@ -304,6 +346,7 @@ SCRIPTS = [
     a_timeline_of_many_rows,
     labels_of_runs_that_are_used_up,
     labels_of_a_dictionary_that_are_used_up,
+    rows_of_a_dictionary_before_all_others,
     many_rows_of_a_dictionary_at_one_place,
     a_gap_between_checkpoints_that_is_split,
     checkpoints_that_go_where_rows_go,
@@ -330,9 +373,10 @@ edit p add 0 #3 ins 2 bridge 0 gain #1 4
 """
 
 
-def answers_of(program, words, given):
-    """What the program writes, line by line, and its status."""
-    done = subprocess.run([program] + words, input=given, stdout=subprocess.PIPE, timeout=LIMIT)
+def answers_of(program, words, given, memory=None):
+    """What the program writes, line by line, and its status, where it may take no more bytes of memory than these."""
+    limited = memory and (lambda: resource.setrlimit(resource.RLIMIT_AS, (memory, memory)))
+    done = subprocess.run([program] + words, input=given, stdout=subprocess.PIPE, timeout=LIMIT, preexec_fn=limited)
     return done.stdout.decode().splitlines(), done.returncode
 
 
@@ -361,6 +405,11 @@ def results(program):
     for begin, judgement, status in LONG_EVIDENCE:
         found = answers_of(program, ["check"], begin + 4_096 * b" " + b"\n" + EVIDENCE)
         yield passes("a long line of evidence", found, ([judgement], status))
+    for name, past, status in (("a present in little memory", (), 0), ("a past that needs more", ("p ask at 1 min",), 5)):
+        lines = list(a_present_that_is_asked((question, None) for question in past))
+        given = "\n".join(line for line, _ in lines).encode()
+        wanted = [answer for _, answer in lines if answer is not None]
+        yield passes(name, answers_of(program, ["run"], given, PRESENT_MEMORY), (wanted, status))
     first, second = (answers_of(program, ["gen", "pq", "20000", "7"], b"") for _ in range(2))
     yield passes("a long generated script", second, first)
     yield passes("its lines", (first[0][0].split()[:2], first[1]), (["lines", "20001"], 0))

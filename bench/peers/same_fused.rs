@@ -188,46 +188,6 @@ fn tally(path: &[Step], bound: Entry) -> (usize, usize) {
     (left, before)
 }
 
-/// The least key on a path and the greatest.
-fn span(path: &[Step]) -> (i64, i64) {
-    let (mut low, mut high) = (i64::MAX, i64::MIN);
-    let mut widen = |key: i64| (low, high) = (low.min(key), high.max(key));
-    for step in path {
-        match step {
-            Step::Piece(piece) => [&piece.left, &piece.removed]
-                .into_iter()
-                .flat_map(|list| [list.get(0), list.last()])
-                .flatten()
-                .for_each(|entry| widen(entry.0)),
-            Step::Rows(rows) => rows.iter().for_each(|row| {
-                if let Op::Ins { key } = row.op {
-                    widen(key);
-                }
-            }),
-        }
-    }
-    (low, high)
-}
-
-/// The greatest key before which no more entries are left than an index says.
-fn key_at(path: &[Step], index: usize) -> Option<i64> {
-    if index >= tally(path, (0, 0)).0 {
-        return None;
-    }
-    let (mut low, mut high) = span(path);
-    let mut width = high.abs_diff(low);
-    while width > 0 {
-        let half = width / 2;
-        let middle = high - half as i64;
-        if tally(path, (middle, 0)).1 <= index {
-            (low, width) = (middle, half);
-        } else {
-            (high, width) = (middle - 1, width - half - 1);
-        }
-    }
-    Some(low)
-}
-
 pub struct SameFused {
     timeline: Timeline,
     present: Bridges,
@@ -247,6 +207,27 @@ impl SameFused {
         let mut path = Vec::new();
         self.past.path(place, &mut path);
         path
+    }
+
+    /// The key at an index of what is left at a place: that of the last entry put in anywhere before which no more are left than
+    /// the index says.
+    fn key_at(&self, place: usize, index: usize) -> Option<i64> {
+        let path = self.path(place);
+        let (mut low, mut high, mut key) = (0, self.present.added_len(), None);
+        while low < high {
+            let middle = low + (high - low) / 2;
+            let entry = self.present.added(middle);
+            let (left, before) = tally(&path, entry);
+            if index >= left {
+                return None;
+            }
+            if before <= index {
+                (low, key) = (middle + 1, Some(entry.0));
+            } else {
+                high = middle;
+            }
+        }
+        key
     }
 }
 
@@ -317,7 +298,7 @@ impl Past for SameFused {
                 Answer::Number(left as i128)
             }
             Question::Nth(index) if is_present => Answer::of(self.present.nth(index as u32)),
-            Question::Nth(index) => Answer::of(key_at(&self.path(place), index as usize)),
+            Question::Nth(index) => Answer::of(self.key_at(place, index as usize)),
             _ => Answer::Nothing,
         }
     }

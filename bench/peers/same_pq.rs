@@ -142,6 +142,16 @@ impl Bridges {
             .unwrap()
     }
 
+    /// How many entries the rows put in, be they in the present or not.
+    pub fn added_len(&self) -> usize {
+        self.entries.len()
+    }
+
+    /// The one at a rank of these, in their order.
+    pub fn added(&self, rank: usize) -> Entry {
+        self.entries.get(rank).entry
+    }
+
     fn entry_place(&self, entry: Entry) -> usize {
         self.entries.partition_point(|marked| marked.entry < entry)
     }

@@ -2,7 +2,7 @@
 
 use crate::index::{Bad, KeyIndex, Op};
 use crate::labels::{END, Labels, Lately, spread};
-use crate::spans::{Found, KeyPair, Lifetime, Query, Segments, Sought};
+use crate::spans::{Found, KeyPair, KeyRange, Lifetime, Segments};
 use crate::tree::{Item, Tree};
 
 #[derive(Clone, Copy)]
@@ -153,11 +153,12 @@ impl Dictionary {
         self.segments = segments;
     }
 
-    fn found(&self, place: u32, query: Query) -> Found {
+    fn found(&self, place: u32, low: i64, high: i64) -> Found {
         if place == 0 {
             return Found::NONE;
         }
-        self.segments.ask(self.labels.at(place - 1), query)
+        let range = KeyRange { low, high };
+        self.segments.ask(self.labels.at(place - 1), range)
     }
 
     /// What the last row on a key before a place put.
@@ -213,15 +214,14 @@ impl Past for Dictionary {
     }
 
     fn ask(&self, place: u32, question: Question) -> Answer {
-        let found = |sought, low, high| self.found(place, Query { low, high, sought });
         match question {
             Question::Get { key } => number(self.value(place, key)),
-            Question::Succ { key } => pair(found(Sought::Least, key, i64::MAX).least),
-            Question::Pred { key } => pair(found(Sought::Greatest, i64::MIN, key).greatest),
+            Question::Succ { key } => pair(self.found(place, key, i64::MAX).least),
+            Question::Pred { key } => pair(self.found(place, i64::MIN, key).greatest),
             Question::Count { low, high } => {
-                Answer::Number(i128::from(found(Sought::All, low, high).count))
+                Answer::Number(i128::from(self.found(place, low, high).count))
             }
-            Question::Sum { low, high } => Answer::Number(found(Sought::All, low, high).sum),
+            Question::Sum { low, high } => Answer::Number(self.found(place, low, high).sum),
         }
     }
 }

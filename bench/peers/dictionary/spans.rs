@@ -38,23 +38,14 @@ impl Item for KeyPair {
     }
 }
 
-/// What is looked for among the pairs whose keys lie in a range.
+/// The keys from `low` to `high`, both included.
 #[derive(Clone, Copy)]
-pub enum Sought {
-    All,
-    Least,
-    Greatest,
-}
-
-/// A range of keys, and what is looked for there.
-#[derive(Clone, Copy)]
-pub struct Query {
+pub struct KeyRange {
     pub low: i64,
     pub high: i64,
-    pub sought: Sought,
 }
 
-/// What is found of the pairs whose keys lie in a range, as far as it is looked for.
+/// What is found of the pairs whose keys lie in a range.
 #[derive(Clone, Copy)]
 pub struct Found {
     pub count: u32,
@@ -71,36 +62,8 @@ impl Found {
         greatest: None,
     };
 
-    fn of(pairs: &Tree<KeyPair>, query: Query) -> Found {
-        let Query { low, high, .. } = query;
-        match query.sought {
-            Sought::All => Found::all(pairs, low, high),
-            Sought::Least => {
-                let from = pairs.partition_point(|pair| pair.key < low);
-                if from == pairs.len() {
-                    return Found::NONE;
-                }
-                let pair = pairs.get(from);
-                Found {
-                    least: (pair.key <= high).then_some(pair),
-                    ..Found::NONE
-                }
-            }
-            Sought::Greatest => {
-                let to = pairs.partition_point(|pair| pair.key <= high);
-                if to == 0 {
-                    return Found::NONE;
-                }
-                let pair = pairs.get(to - 1);
-                Found {
-                    greatest: (low <= pair.key).then_some(pair),
-                    ..Found::NONE
-                }
-            }
-        }
-    }
-
-    fn all(pairs: &Tree<KeyPair>, low: i64, high: i64) -> Found {
+    fn of(pairs: &Tree<KeyPair>, range: KeyRange) -> Found {
+        let KeyRange { low, high } = range;
         let from = pairs.partition_point(|pair| pair.key < low);
         let to = pairs.partition_point(|pair| pair.key <= high);
         if to <= from {
@@ -116,17 +79,11 @@ impl Found {
     }
 
     /// One more pair, after all others.
-    fn add(&mut self, pair: KeyPair, sought: Sought) {
-        match sought {
-            Sought::All => {
-                self.count += 1;
-                self.sum = self.sum.wrapping_add(i128::from(pair.value));
-                self.least = Some(self.least.unwrap_or(pair));
-                self.greatest = Some(pair);
-            }
-            Sought::Least => self.least = Some(self.least.unwrap_or(pair)),
-            Sought::Greatest => self.greatest = Some(pair),
-        }
+    fn add(&mut self, pair: KeyPair) {
+        self.count += 1;
+        self.sum = self.sum.wrapping_add(i128::from(pair.value));
+        self.least = Some(self.least.unwrap_or(pair));
+        self.greatest = Some(pair);
     }
 
     fn combine(self, other: Found) -> Found {
@@ -371,51 +328,48 @@ fn move_first(left: &mut Spans, level: u32, life: Lifetime, next: u64) {
 }
 
 #[inline(never)]
-fn ask_few(few: &Few, label: u64, query: Query) -> Found {
+fn ask_few(few: &Few, label: u64, range: KeyRange) -> Found {
     let mut found = Found::NONE;
-    let from = few.0.partition_point(|other| other.pair.key < query.low);
+    let from = few.0.partition_point(|other| other.pair.key < range.low);
     for life in &few.0[from..] {
-        if query.high < life.pair.key {
+        if range.high < life.pair.key {
             break;
         }
         if life.holds(label) {
-            found.add(life.pair, query.sought);
-            if matches!(query.sought, Sought::Least) {
-                break;
-            }
+            found.add(life.pair);
         }
     }
     found
 }
 
-fn ask(spans: &Spans, level: u32, label: u64, query: Query) -> Found {
+fn ask(spans: &Spans, level: u32, label: u64, range: KeyRange) -> Found {
     let span = match spans {
-        Spans::Few(few) => return ask_few(few, label, query),
+        Spans::Few(few) => return ask_few(few, label, range),
         Spans::Full(span) => span,
     };
     if level == 0 {
-        return Found::of(&span.pairs, query);
+        return Found::of(&span.pairs, range);
     }
     if span.pairs.len() == 0 {
-        return ask_half(span, level - 1, label, query);
+        return ask_half(span, level - 1, label, range);
     }
-    ask_whole(span, level - 1, label, query)
+    ask_whole(span, level - 1, label, range)
 }
 
 /// What is found of the pairs of a span, and of those below it.
 #[inline(never)]
-fn ask_whole(span: &Span, level: u32, label: u64, query: Query) -> Found {
-    let below = ask_half(span, level, label, query);
-    Found::of(&span.pairs, query).combine(below)
+fn ask_whole(span: &Span, level: u32, label: u64, range: KeyRange) -> Found {
+    let below = ask_half(span, level, label, range);
+    Found::of(&span.pairs, range).combine(below)
 }
 
 /// What is found of the pairs below a span.
-fn ask_half(span: &Span, level: u32, label: u64, query: Query) -> Found {
+fn ask_half(span: &Span, level: u32, label: u64, range: KeyRange) -> Found {
     let half = 1 << level;
     if label < half {
-        ask(&span.left, level, label, query)
+        ask(&span.left, level, label, range)
     } else {
-        ask(&span.right, level, label - half, query)
+        ask(&span.right, level, label - half, range)
     }
 }
 
@@ -460,7 +414,7 @@ impl Segments {
         move_end(&mut self.root, LEVELS, life, next);
     }
 
-    pub fn ask(&self, label: u64, query: Query) -> Found {
-        ask(&self.root, LEVELS, label, query)
+    pub fn ask(&self, label: u64, range: KeyRange) -> Found {
+        ask(&self.root, LEVELS, label, range)
     }
 }

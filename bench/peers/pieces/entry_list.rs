@@ -51,10 +51,6 @@ impl EntryList {
         self.chunks.get(chunk)?.get(rank - start).copied()
     }
 
-    pub fn last(&self) -> Option<Entry> {
-        self.chunks[self.chunks.len() - 1].last().copied()
-    }
-
     /// The chunk in which an entry stands or would, and its place there.
     fn spot(&self, entry: Entry) -> (usize, usize) {
         let chunk = self.chunks[1..].partition_point(|chunk| chunk[0] <= entry);

@@ -21,7 +21,7 @@ fn outbox_before(
 
 /// Sees what the other sink has got.
 fn expect_written(rt: &impl Abort, outbox: &Outbox<MemorySink>, bytes: &[u8]) {
-    assert_eq!(rt; outbox.sink().written(), bytes);
+    assert!(rt; outbox.sink().written() == bytes);
 }
 
 #[test]
@@ -29,10 +29,10 @@ fn answers_go_out_in_one_write(rt: HostRuntime) {
     // Of the other sink, the second write fails: so there is one.
     let mut outbox = outbox_before(&rt, rt.alloc(), (64, 64), &[1]);
     for answer in [b"ok\n".as_slice(), b"ok #1\n", b"= 5\n"] {
-        assert_eq!(rt; put_all(&mut outbox, answer), Ok(()));
+        assert!(rt; put_all(&mut outbox, answer).is_ok());
     }
     expect_written(&rt, &outbox, b"");
-    assert_eq!(rt; outbox.flush(), Ok(()));
+    assert!(rt; outbox.flush().is_ok());
     expect_written(&rt, &outbox, b"ok\nok #1\n= 5\n");
 }
 
@@ -47,10 +47,10 @@ fn many_bytes(rt: &impl Abort, alloc: Global) -> Vec<u8> {
 /// Sees that all bytes go out to a sink that takes so many of them a call.
 fn expect_all_out(rt: &impl Abort, alloc: Global, piece: u32, bytes: &[u8]) {
     let mut outbox = outbox_before(rt, alloc, (1 << 20, piece), &[]);
-    assert_eq!(rt; put_all(&mut outbox, bytes), Ok(()));
-    assert_eq!(rt; outbox.send(), Ok(()));
+    assert!(rt; put_all(&mut outbox, bytes).is_ok());
+    assert!(rt; outbox.send().is_ok());
     expect_written(rt, &outbox, bytes);
-    assert_eq!(rt; outbox.flush(), Ok(()));
+    assert!(rt; outbox.flush().is_ok());
     expect_written(rt, &outbox, bytes);
 }
 
@@ -63,9 +63,9 @@ fn all_goes_out_whatever_the_sink_takes(rt: HostRuntime) {
 }
 
 fn expect_failures(rt: &impl Abort, outbox: &mut Outbox<MemorySink>) {
-    assert_eq!(rt; outbox.write(b"more"), Err(Failed));
-    assert_eq!(rt; outbox.send(), Err(Failed));
-    assert_eq!(rt; outbox.flush(), Err(Failed));
+    assert!(rt; outbox.write(b"more").is_err());
+    assert!(rt; outbox.send().is_err());
+    assert!(rt; outbox.flush().is_err());
 }
 
 /// Each write of the other sink fails in turn: what it took before is all that it ever gets, and each further call fails.
@@ -87,15 +87,15 @@ fn a_send_passes_on_what_waits(rt: HostRuntime) {
     // Of the other sink, the second write fails: a send makes none where nothing waits.
     let sink = MemorySink::new(rt.alloc(), 64, 64, &[1]).expect(&rt, "memory");
     let mut outbox = Outbox::new(rt.alloc(), sink).expect(&rt, "memory");
-    assert_eq!(rt; outbox.send(), Ok(()));
-    assert_eq!(rt; outbox.write(b"ok\n"), Ok(3));
+    assert!(rt; outbox.send().is_ok());
+    assert!(rt; matches!(outbox.write(b"ok\n"), Ok(3)));
     for _ in 0..3 {
-        assert_eq!(rt; outbox.send(), Ok(()));
-        assert_eq!(rt; outbox.sink().written(), b"ok\n".as_slice());
+        assert!(rt; outbox.send().is_ok());
+        assert!(rt; outbox.sink().written() == b"ok\n".as_slice());
     }
-    assert_eq!(rt; outbox.write(b"ok\n"), Ok(3));
-    assert_eq!(rt; outbox.send(), Err(Failed));
-    assert_eq!(rt; outbox.sink().written(), b"ok\n".as_slice());
+    assert!(rt; matches!(outbox.write(b"ok\n"), Ok(3)));
+    assert!(rt; outbox.send().is_err());
+    assert!(rt; outbox.sink().written() == b"ok\n".as_slice());
 }
 
 /// A sink that takes all, and of which the first flush fails and no later one.
@@ -142,9 +142,9 @@ fn a_flush_that_fails_is_the_last(rt: HostRuntime) {
         faults: 0,
     };
     let mut outbox = Outbox::new(rt.alloc(), sink).expect(&rt, "memory");
-    assert_eq!(rt; outbox.write(b"ok\n"), Ok(3));
+    assert!(rt; matches!(outbox.write(b"ok\n"), Ok(3)));
     for _ in 0..3 {
-        assert_eq!(rt; outbox.flush(), Err(Failed));
+        assert!(rt; outbox.flush().is_err());
     }
-    assert_eq!(rt; outbox.sink().flushes, 1);
+    assert!(rt; outbox.sink().flushes == 1);
 }

@@ -4,8 +4,8 @@ ghost use Rattle.std.specs.Prelude.{◌<◌, ◌^◌};
 
 use retro_base::Text;
 use retro_io::{
-    Failed, LineReader, Mark, MemorySink, MemorySource, ReadError, Sink, Source, StdSink,
-    StdSource, WholeSource, WriteFault, put_all,
+    LineReader, Mark, MemorySink, MemorySource, ReadError, Sink, Source, StdSink, StdSource,
+    WholeSource, put_all,
 };
 use std::alloc::Global;
 use std::io::{self, ErrorKind, Read, Write, pipe};
@@ -41,6 +41,20 @@ fn ended(rt: &impl Abort, mut text: Text, mark: &[u8]) -> Text {
     text
 }
 
+/// Sees that a reader answers so.
+fn expect_answers<S: Source>(
+    rt: &impl Abort,
+    alloc: Global,
+    source: &mut S,
+    limit: u64,
+    expected: &[u8],
+)
+    requires { limit < 2 ^ 62 }
+{
+    let text = answers(rt, alloc, source, limit);
+    assert!(rt; text.as_bytes() == expected);
+}
+
 #[test]
 fn the_limit_is_a_limit(rt: HostRuntime) {
     let table: [(u64, &[u8], usize); 4] = [
@@ -51,11 +65,8 @@ fn the_limit_is_a_limit(rt: HostRuntime) {
     ];
     for (limit, expected, left) in table {
         let mut source = WholeSource::new(rt.alloc(), b"abc\ndefghi").expect(&rt, "memory");
-        assert_eq!(rt;
-            answers(&rt, rt.alloc(), &mut source, limit).as_bytes(),
-            expected
-        );
-        assert_eq!(rt; source.read(&mut [0; 16]), Ok(left));
+        expect_answers(&rt, rt.alloc(), &mut source, limit, expected);
+        assert!(rt; source.read(&mut [0; 16]) == Ok(left));
     }
 }
 
@@ -72,10 +83,7 @@ fn lines_come_in_pieces_of_every_size(rt: HostRuntime) {
     for (bytes, expected) in table {
         for piece in 1..20 {
             let mut source = MemorySource::new(rt.alloc(), bytes, piece, &[]).expect(&rt, "memory");
-            assert_eq!(rt;
-                answers(&rt, rt.alloc(), &mut source, 1 << 30).as_bytes(),
-                expected
-            );
+            expect_answers(&rt, rt.alloc(), &mut source, 1 << 30, expected);
         }
     }
 }
@@ -93,13 +101,20 @@ fn a_reader_knows_whether_it_holds_a_line(rt: HostRuntime) {
     let mut source = WholeSource::new(rt.alloc(), b"ab\n\ncd").expect(&rt, "memory");
     let mut reader = LineReader::new(rt.alloc(), &mut source, 1 << 30).expect(&rt, "memory");
     assert!(rt; !reader.holds_line());
-    assert_eq!(rt; reader.next().expect(&rt, "no fault"), Mark::Whole);
+    assert!(rt; matches!(reader.next(), Ok(Mark::Whole)));
     assert!(rt; reader.holds_line());
-    assert_eq!(rt; reader.next().expect(&rt, "no fault"), Mark::Whole);
+    assert!(rt; matches!(reader.next(), Ok(Mark::Whole)));
     assert!(rt; !reader.holds_line());
-    assert_eq!(rt; reader.next().expect(&rt, "no fault"), Mark::Whole);
-    assert_eq!(rt; reader.next().expect(&rt, "no fault"), Mark::End);
+    assert!(rt; matches!(reader.next(), Ok(Mark::Whole)));
+    assert!(rt; matches!(reader.next(), Ok(Mark::End)));
     assert!(rt; !reader.holds_line());
+}
+
+/// Sees that so many bytes of a first line are shown behind its mark, and then a second line.
+fn expect_shown(rt: &impl Abort, answers: &[u8], mark: u8, shown: usize) {
+    assert!(rt; answers.first() == Some(&mark));
+    assert!(rt; answers.len() >= 9 && answers.len() - 9 == shown);
+    assert!(rt; answers.ends_with(b"x|Wnext|E"));
 }
 
 #[test]
@@ -119,9 +134,7 @@ fn long_lines_are_shown_in_part(rt: HostRuntime) {
                 &rt, "memory",
             );
             let text = answers(&rt, rt.alloc(), &mut source, 1 << 30);
-            assert_eq!(rt; text.as_bytes().first(), Some(&mark));
-            assert_eq!(rt; text.as_bytes().len(), shown + 9);
-            assert!(rt; text.as_bytes().ends_with(b"x|Wnext|E"));
+            expect_shown(&rt, text.as_bytes(), mark, shown);
         }
     }
 }
@@ -139,27 +152,24 @@ fn a_fault_ends_the_reading(rt: HostRuntime) {
         let mut source = MemorySource::new(rt.alloc(), b"ab\ncd\nef", piece, &[failing]).expect(
             &rt, "memory",
         );
-        assert_eq!(rt;
-            answers(&rt, rt.alloc(), &mut source, 1 << 30).as_bytes(),
-            expected
-        );
+        expect_answers(&rt, rt.alloc(), &mut source, 1 << 30, expected);
     }
 }
 
 #[test]
 fn all_is_written_or_a_prefix(rt: HostRuntime) {
-    let table: [(u32, u32, &[u32], Result<(), WriteFault>, &[u8]); 5] = [
-        (64, 1, &[], Ok(()), b"abcdef"),
-        (64, 4, &[2], Ok(()), b"abcdef"),
-        (64, 4, &[1], Err(WriteFault), b"abcd"),
-        (64, 4, &[0], Err(WriteFault), b""),
-        (5, 2, &[], Err(WriteFault), b"abcde"),
+    let table: [(u32, u32, &[u32], bool, &[u8]); 5] = [
+        (64, 1, &[], true, b"abcdef"),
+        (64, 4, &[2], true, b"abcdef"),
+        (64, 4, &[1], false, b"abcd"),
+        (64, 4, &[0], false, b""),
+        (5, 2, &[], false, b"abcde"),
     ];
-    for (room, piece, failing, answer, written) in table {
+    for (room, piece, failing, is_all, written) in table {
         let mut sink = MemorySink::new(rt.alloc(), room, piece, failing).expect(&rt, "memory");
-        assert_eq!(rt; put_all(&mut sink, b"abcdef"), answer);
-        assert_eq!(rt; sink.written(), written);
-        assert_eq!(rt; sink.flush(), Ok(()));
+        assert!(rt; put_all(&mut sink, b"abcdef").is_ok() == is_all);
+        assert!(rt; sink.written() == written);
+        assert!(rt; sink.flush().is_ok());
     }
 }
 
@@ -167,14 +177,11 @@ fn all_is_written_or_a_prefix(rt: HostRuntime) {
 fn std_streams_pass_bytes_on(rt: HostRuntime) {
     let (reader, writer) = pipe(&rt).expect(&rt, "a pipe");
     let mut sink = StdSink::new(writer);
-    assert_eq!(rt; put_all(&mut sink, b"ab\ncd"), Ok(()));
-    assert_eq!(rt; sink.flush(), Ok(()));
+    assert!(rt; put_all(&mut sink, b"ab\ncd").is_ok());
+    assert!(rt; sink.flush().is_ok());
     drop(sink);
     let mut source = StdSource::new(reader);
-    assert_eq!(rt;
-        answers(&rt, rt.alloc(), &mut source, 1 << 30).as_bytes(),
-        b"Wab|Wcd|E".as_slice()
-    );
+    expect_answers(&rt, rt.alloc(), &mut source, 1 << 30, b"Wab|Wcd|E");
 }
 
 /// A stream whose reads fail and whose writes take nothing.
@@ -200,12 +207,9 @@ impl Write for Broken {
 #[test]
 fn broken_streams_fail(rt: HostRuntime) {
     let mut source = StdSource::new(Broken);
-    assert_eq!(rt;
-        answers(&rt, rt.alloc(), &mut source, 1 << 30).as_bytes(),
-        b"F".as_slice()
-    );
+    expect_answers(&rt, rt.alloc(), &mut source, 1 << 30, b"F");
     let mut sink = StdSink::new(Broken);
-    assert_eq!(rt; put_all(&mut sink, b""), Ok(()));
-    assert_eq!(rt; put_all(&mut sink, b"a"), Err(WriteFault));
-    assert_eq!(rt; sink.flush(), Err(Failed));
+    assert!(rt; put_all(&mut sink, b"").is_ok());
+    assert!(rt; put_all(&mut sink, b"a").is_err());
+    assert!(rt; sink.flush().is_err());
 }

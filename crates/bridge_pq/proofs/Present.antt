@@ -3,7 +3,7 @@ use Rattle.std.proofs.Common.{◌≡◌, ℕ, zero, suc, ◌+◌, ◌<◌, ◌�
 use Rattle.std.specs.Prelude.{Contains, not}
 use Rattle.std.specs.List.{remove, slice_get}
 use Rattle.std.specs.Option.{option_map}
-use Rattle.std.proofs.lemmas.List.{append_assoc, append-nil, drop_all}
+use Rattle.std.proofs.lemmas.List.{append_assoc, append-nil, drop_all, length-map}
 use Rattle.std.proofs.lemmas.List.Edits.{length-remove}
 use Rattle.retro_base.specs.declared.kind.Kind.TheVariants.{Pq}
 use Rattle.retro_base.specs.declared.question.Answer.TheVariants.{Number}
@@ -25,8 +25,8 @@ use Rattle.retro_base.specs.lemmas.bridges.Tests.{in_is_among, is_among_in}
 use Rattle.retro_base.specs.OrderLaws.{all_at}
 use Rattle.bridge_pq.specs.declared.marked_row.MarkedRow.{MarkedRow}
 use Rattle.bridge_pq.specs.declared.marked_entry.MarkedEntry.{MarkedEntry}
-use Rattle.bridge_pq.specs.Bridged.{IsBridged}
-use Rattle.bridge_pq.specs.MarkedEntries.{present_in}
+use Rattle.bridge_pq.specs.Bridged.{AreAdded, IsBridged}
+use Rattle.bridge_pq.specs.MarkedEntries.{entries_in, present_in}
 use Rattle.bridge_pq.specs.MarkedRows.{rows_of, is_one_of}
 use Rattle.bridge_pq.proofs.Edited.{history-of, few-entries, rows-length}
 use Rattle.bridge_pq.proofs.HeldEntries.{present-is, present-state}
@@ -127,3 +127,8 @@ keys-passed items listing place next item on so_far there mark =
 
 pub keys-whole : (items : List MarkedEntry) (listing : List Item) (place : ℕ) → listing ++ keys_in (drop place items) ≡ keys_in items → length items ≤ place → listing ≡ keys_in items
 keys-whole items listing place so_far all = sym (append-nil listing) ∙ ap (λ l. listing ++ keys_in l) (sym (drop_all place items all)) ∙ so_far
+
+-- the entries that are kept are all that the rows add
+pub all-added : (items : List MarkedRow) (kept : List MarkedEntry) → IsBridged items kept → AreAdded (rows_of items) (entries_in kept)
+all-added items kept bridged =
+    record { rise = bridged.holds.rise; as_many = length-map kept (λ item. item.entry) ∙ bridged.holds.as_many; same = bridged.holds.same }

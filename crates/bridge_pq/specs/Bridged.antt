@@ -21,6 +21,12 @@ pub record IsFlipped (before after : List Entry) (entry : Entry) (survives : Boo
   pub flip : is_among after entry ≡ survives
   pub others : (other : Entry) → other ≢ entry → is_among after other ≡ is_among before other
 
+-- the entries that the rows add, each once and in order
+pub record AreAdded (rows : List Row) (entries : List Entry) : Type 0 where
+  pub rise : Rise entries
+  pub as_many : length entries ≡ length (added rows)
+  pub same : (entry : Entry) → Contains entries entry ↔ Contains (added rows) entry
+
 -- the entries are those that the rows add, each once and in order, with marks for those of the present
 pub record Holds (rows : List Row) (alive : List Entry) (entries : List MarkedEntry) : Type 0 where
   pub rise : Rise (entries_in entries)

@@ -26,7 +26,7 @@ use weighted_tree::Tree;
 #[derive(Drop)]
 pub struct BridgeQueue {
     rows: Tree<MarkedRow>,
-    entries: Tree<MarkedEntry>,
+    pub(crate) entries: Tree<MarkedEntry>,
 }
 
 impl Model for BridgeQueue {

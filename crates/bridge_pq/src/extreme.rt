@@ -63,16 +63,6 @@ impl ExtremeEntry {
         self.offset == u32::MAX
     }
 
-    /// The entry.
-    pub(crate) fn element(self) -> Option<Entry>
-        ensures { result ≡ option_map (λ extreme. extreme.0) self }
-    {
-        if self.is_none() {
-            return None;
-        }
-        Some(self.entry())
-    }
-
     /// The offset.
     pub(crate) fn offset(self) -> Option<u32>
         ensures { result ≡ option_map (λ extreme. extreme.1) self }

@@ -32,19 +32,25 @@
 //! | `ask_after`, with r rows between | at most (113 r + 180) d | the r rows, and those of their entries that stay |
 //! | `list_after`, the same | the same, and at most 56 d for each entry listed | the same, and the listing |
 //! | `copy` | each once | as many nodes |
+//! | `added`, its `len` | none | none |
+//! | its `get` | at most 12 d | none |
 //!
 //! `ask_after` and `list_after` answer for a later queue, and change neither. The entries of this queue are read in order over
 //! a cursor, and those that come in go into a heap; of a row that takes the lesser of the two firsts is taken.
 //!
-//! What the layer above may rely on: the clauses of `Partial`, of which 144 d is the bound for each call but `ask_after`,
-//! whose bound is (288 r + 144) d. The lesser numbers of this table follow from the bodies, and no public clause names them.
+//! `added` lends the entries that the rows add in their order, whatever became of them, so that one is read by its rank.
+//!
+//! What the layer above may rely on: the clauses of `added` and of `Partial`, of which 144 d is the bound for each call but
+//! `ask_after`, `copy_after` and `list_after`; that of `ask_after` is (288 r + 144) d. The lesser numbers of this table follow from
+//! the bodies, and no public clause names them.
 //! Files: `marked_row`, `marked_entry` (what stands in the trees), `row_measure`, `entry_measure`, `extreme` (what
 //! a range of them measures, kept small, since each node has two), `row_search` (bridges and the changed
-//! entries), `entry_tree` (entries by their order), `flip`, `changes`, `failure` (what an edit changes, or
+//! entries), `entry_tree` (entries by their order), `added` (all of them, lent), `flip`, `changes`, `failure` (what an edit changes, or
 //! which row it stops), `edit` (the two trees together), `cursor`, `fresh`, `held`, `later` (what is held some rows later),
 //! `bridge_queue`.
 #![tactic(auto)]
 
+mod added;
 mod bridge_queue;
 mod changes;
 mod cursor;
@@ -62,4 +68,5 @@ mod marked_row;
 mod row_measure;
 mod row_search;
 
+pub use added::AddedEntries;
 pub use bridge_queue::BridgeQueue;

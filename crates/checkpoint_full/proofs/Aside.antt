@@ -6,8 +6,7 @@ use Rattle.std.proofs.lemmas.List.Quantifiers.{position-Some}
 use Rattle.retro_base.specs.declared.row.Row.{Row}
 use Rattle.retro_base.specs.Edits.{add, cut}
 use Rattle.retro_base.specs.Timeline.{Structure}
-use Rattle.checkpoint_full.specs.Checkpoints.{after, first_of, place_of, with_row, without_row, HoldsFirstRows}
-use Rattle.checkpoint_full.specs.Copies.{stands_within}
+use Rattle.checkpoint_full.specs.Checkpoints.{after, first_of, place_of, stands_within, with_row, without_row, HoldsFirstRows}
 use Rattle.checkpoint_full.proofs.FirstRows.{first_of-first_of}
 use Rattle.checkpoint_full.proofs.Followed.{all_first_with, all_first_without}
 use Rattle.checkpoint_full.proofs.Mapped.{all_of}

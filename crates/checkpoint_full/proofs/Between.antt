@@ -9,7 +9,7 @@ use Rattle.checkpoint_full.specs.Checkpoints.{first_of, place_of, were_made, Are
 use Rattle.checkpoint_full.specs.Widths.{AreClose}
 use Rattle.checkpoint_full.proofs.FirstRows.{first_rows_of, first_of-first_of, place_of-first_of, not_after_now, same_structure}
 use Rattle.checkpoint_full.proofs.Mapped.{all_of}
-use Rattle.checkpoint_full.proofs.Places.{is_up_to, close_between, close_more, room_between, room_found, room_there}
+use Rattle.checkpoint_full.proofs.Places.{is_up_to, close_between, close_more, room_between, room_there}
 
 -- the place stands between these two neighbours, of which the earlier one has this index
 pub record StandsBetween (now : Structure) (checkpoints : List Structure) (place index : ℕ) (earlier later : Structure) : Type 0 where
@@ -48,15 +48,6 @@ room_left most now checkpoints place index earlier later between near =
     subst (λ s. place_of s < place_of (get_or checkpoints index earlier) + most) between.later_is
     (subst (λ s. place_of later < place_of s + most) between.earlier_is near) in
     room_there most place now checkpoints index earlier below.0 below.2 below.1 near_there
-
--- and where one more row fits in they are near enough
-pub no_room_left : (most : ℕ) (now : Structure) (checkpoints : List Structure) (place index : ℕ) (earlier later : Structure) → StandsBetween now checkpoints place index earlier later
-    → FitsBetween most place (place_of now) (map place_of checkpoints) → place_of later < place_of earlier + most
-no_room_left most now checkpoints place index earlier later between fits =
-    let below = below_of now checkpoints place index earlier later between in
-    let near = room_found most place now checkpoints index earlier below.0 below.2 below.1 fits in
-    subst (λ s. place_of later < place_of s + most) (sym between.earlier_is)
-    (subst (λ s. place_of s < place_of (get_or checkpoints index earlier) + most) (sym between.later_is) near)
 
 -- the neighbours hold the first rows
 now_holds : (now : Structure) → HoldsFirstRows now now

@@ -107,15 +107,6 @@ counted width all now checkpoints latest to_come =
 pub no_more_were_made : (width all now : ℕ) (checkpoints : List Structure) (latest : Structure) → AreToCome width all now checkpoints latest → length checkpoints ≤ all
 no_more_were_made width all now checkpoints latest to_come = omega (arith, counted width all now checkpoints latest to_come)
 
--- one is left where the latest of those to come is not the start
-pub one_is_left : (width all now : ℕ) (checkpoints : List Structure) (latest : Structure) → AreToCome width all now checkpoints latest → 0 < place_of latest
-    → length checkpoints + 1 ≤ all
-one_is_left width all now checkpoints latest to_come some = by_left to_come.left to_come.stands (counted width all now checkpoints latest to_come)
-  where
-    by_left : (left : ℕ) → place_of latest ≡ left * width → all ≡ left + length checkpoints → length checkpoints + 1 ≤ all
-    by_left zero stands sum = absurd (omega (arith, stands, some))
-    by_left (suc left) stands sum = omega (arith, sum)
-
 pub all_settled : (width all : ℕ) (now : Structure) (checkpoints more : List Structure) (latest : Structure) → 0 < width → all ≤ most_checkpoints
     → AreToCome width all (place_of now) checkpoints latest → more ≡ checkpoints ++ latest ∷ [] → AreSettled width now more
 all_settled width all now checkpoints more latest wide few to_come pushed =

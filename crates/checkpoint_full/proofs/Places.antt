@@ -6,7 +6,7 @@ use Rattle.std.proofs.lemmas.Bool.{leb-true, leb-false, le-leb, lt-ltb, cases_lt
 use Rattle.std.proofs.lemmas.List.Quantifiers.{position-Some}
 use Rattle.retro_base.specs.declared.row.Row.{Row}
 use Rattle.retro_base.specs.Timeline.{Structure}
-use Rattle.checkpoint_full.specs.Checkpoints.{nearest_to, place_of, with_row, without_row, AreCheckpoints, FitsBetween, HoldsFirstRows, were_made}
+use Rattle.checkpoint_full.specs.Checkpoints.{place_of, with_row, without_row, AreCheckpoints, FitsBetween, HoldsFirstRows, were_made}
 use Rattle.checkpoint_full.specs.Widths.{AreClose}
 use Rattle.checkpoint_full.proofs.Mapped.{all_of}
 use Rattle.checkpoint_full.proofs.Followed.{longer, shorter, row_stays_out, row_was_out}
@@ -70,20 +70,6 @@ nearest_is_near most now checkpoints place index earlier are within at there =
       subst (λ s. place_of s ≤ place) (sym there) here,
       subst (λ s. place ≤ place_of s + most) (sym there) near,
     )
-
--- the place of the nearest one
-nearest_by : (place : ℕ) (checkpoints : List Structure) (index : ℕ) (d : Structure) → index < length checkpoints → is_up_to place (get_or checkpoints index d) ≡ true
-    → ((k : ℕ) → k < index → is_up_to place (get_or checkpoints k d) ≡ false) → place_of (get_or checkpoints index d) ≡ nearest_to place (map place_of checkpoints)
-nearest_by place [] index d within here others = absurd (omega arith)
-nearest_by place (checkpoint ∷ checkpoints) zero d within here others = rw here refl
-nearest_by place (checkpoint ∷ checkpoints) (suc index) d within here others =
-    rw (others 0 (omega arith)) (nearest_by place checkpoints index d (omega arith) here (λ k less. others (suc k) (omega arith)))
-
-pub nearest_is : (checkpoints : List Structure) (place index : ℕ) (earlier : Structure) → position (is_up_to place) checkpoints ≡ Some index → earlier ≡ get_or checkpoints index earlier
-    → place_of earlier ≡ nearest_to place (map place_of checkpoints)
-nearest_is checkpoints place index earlier at there =
-    let first = position-Some (is_up_to place) checkpoints index earlier at in
-    subst (λ s. place_of s ≡ nearest_to place (map place_of checkpoints)) (sym there) (nearest_by place checkpoints index earlier first.0 first.1 first.2)
 
 -- one more place at the end
 pub close_more : (most later last next : ℕ) (places : List ℕ) → AreClose most later places last → next ≤ last → last ≤ next + most
@@ -191,14 +177,3 @@ room_there most place now (checkpoint ∷ checkpoints) (suc index) d below other
   λ _. room_there most place checkpoint checkpoints index d (omega arith) (λ k less. others (suc k) (omega arith)) here near,
   λ less. absurd (omega (arith, less, leb-false _ _ (others 0 (omega arith)))),
 )
-
--- and where there is room they are
-pub room_found : (most place : ℕ) (now : Structure) (checkpoints : List Structure) (index : ℕ) (d : Structure)
-    → index < length checkpoints → ((k : ℕ) → k < index → is_up_to place (get_or checkpoints k d) ≡ false) → is_up_to place (get_or checkpoints index d) ≡ true
-    → FitsBetween most place (place_of now) (map place_of checkpoints)
-    → place_of (get_or (now ∷ checkpoints) index d) < place_of (get_or checkpoints index d) + most
-room_found most place now [] index d below others here fits = absurd (omega arith)
-room_found most place now (checkpoint ∷ checkpoints) zero d below others here fits = fits.1 (leb-true _ _ here)
-room_found most place now (checkpoint ∷ checkpoints) (suc index) d below others here fits =
-    room_found most place checkpoint checkpoints index d (omega arith) (λ k less. others (suc k) (omega arith)) here
-    (fits.0 (omega (arith, leb-false _ _ (others 0 (omega arith)))))

@@ -58,10 +58,9 @@ were_made (checkpoint ∷ checkpoints) = true
 abbrev pub places_of : List Structure → List ℕ
 places_of checkpoints = drop 1 (reverse (map place_of checkpoints))
 
--- the latest place that is not after this one, of places that are listed the latest first
-abbrev pub nearest_to : ℕ → List ℕ → ℕ
-nearest_to place [] = 0
-nearest_to place (earlier ∷ places) = if nat_le earlier place then earlier else nearest_to place places
+-- a structure stands between two places, or at one of them
+abbrev pub stands_within : ℕ → ℕ → Structure → Bool
+stands_within from to structure = if nat_le from (place_of structure) then nat_le (place_of structure) to else false
 
 -- they are kept where they were made
 abbrev pub KeepsCheckpoints : ℕ → Structure → List Structure → Type 0

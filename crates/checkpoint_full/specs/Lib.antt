@@ -1,4 +1,3 @@
 pub mod Checkpoints
-pub mod Copies
 pub mod Rule
 pub mod Widths

@@ -5,12 +5,10 @@ ghost use Rattle.checkpoint_full.specs.Checkpoints.{place_of, places_of, were_ma
 ghost use Rattle.checkpoint_full.specs.Rule.{between, with_room};
 ghost use Rattle.checkpoint_full.specs.Widths.{made_places, most_checkpoints, multiples_below, IsWidth};
 
-use crate::copies::Copies;
 use crate::snapshot::Snapshot;
 use crate::spares::stand_between;
 use retro_base::{NoMemory, Partial};
 use std::alloc::Global;
-use std::sync::ledger::Ledger;
 
 /// The index of the latest checkpoint that is not after the place; none where none were made.
 pub(crate) fn nearest<P: Partial + Drop>(checkpoints: &[Snapshot<P>], place: u32) -> Option<usize>
@@ -32,12 +30,11 @@ fn first_made(rows: u32, width: u32) -> u32
 }
 
 /// Makes the checkpoints of a timeline, at the start and at each multiple of the width below the number of rows. Each of
-/// them is one copy, of the next one without its last rows.
-pub(crate) fn make<P: Partial + Drop, M: Ledger>(
+/// them is a copy of the next one without its last rows.
+pub(crate) fn make<P: Partial + Drop>(
     alloc: Global,
     present: &Snapshot<P>,
     width: u32,
-    copies: &mut Copies<M>,
 ) -> Result<Vec<Snapshot<P>>, NoMemory>
     requires of_widths { IsWidth width }
     requires few { multiples_below width (place_of present.now) ≤ most_checkpoints }
@@ -45,12 +42,11 @@ pub(crate) fn make<P: Partial + Drop, M: Ledger>(
     ensures checkpoints { IfOk result (λ checkpoints. AreCheckpoints width present.now checkpoints.items) }
     ensures places { IfOk result (λ checkpoints. places_of checkpoints.items ≡ made_places width (place_of present.now)) }
     ensures settled { IfOk result (λ checkpoints. AreSettled width present.now checkpoints.items) }
-    ensures copies { copies.new ≤ copies.old + 1 + multiples_below width (place_of present.now) }
 {
     let mut checkpoints = Vec::new(alloc);
-    let mut latest = present.copy_at(first_made(present.place(), width), copies)?;
+    let mut latest = present.copy_at(first_made(present.place(), width))?;
     while latest.place() > 0 {
-        let earlier = latest.copy_at(latest.place().saturating_sub(width), copies)?;
+        let earlier = latest.copy_at(latest.place().saturating_sub(width))?;
         checkpoints.push(latest)?;
         latest = earlier;
     }
@@ -91,13 +87,12 @@ fn place_between(earlier: u32, later: u32, place: u32) -> u32
 
 /// Makes a checkpoint between the neighbours of the place where one more row would not fit between them, and answers its
 /// index where it made one: one that was laid aside, or a copy. After `NoMemory` all are as before.
-pub(crate) fn make_room<P: Partial + Drop, M: Ledger>(
+pub(crate) fn make_room<P: Partial + Drop>(
     present: &Snapshot<P>,
     checkpoints: &mut Vec<Snapshot<P>>,
     spares: &mut Vec<Snapshot<P>>,
     width: u32,
     place: u32,
-    copies: &mut Copies<M>,
 ) -> Result<Option<usize>, NoMemory>
     requires of_widths { IsWidth width }
     requires within { place ≤ place_of present.now }
@@ -112,8 +107,6 @@ pub(crate) fn make_room<P: Partial + Drop, M: Ledger>(
     ensures index { IfOk result (λ split. IfSome split (λ index. index < length checkpoints.new.items)) }
     ensures err { OnErr result (checkpoints.new.items ≡ checkpoints.old.items) }
     ensures spares { AllByRecursion (HoldsFirstRows present.now) spares.new.items }
-    ensures few { copies.new ≤ copies.old + 1 }
-    ensures fits { FitsBetween width place (place_of present.now) (map place_of checkpoints.old.items) → copies.new ≡ copies.old }
 {
     let Some(index) = nearest(checkpoints.as_slice(), place) else {
         return Ok(None);
@@ -124,7 +117,7 @@ pub(crate) fn make_room<P: Partial + Drop, M: Ledger>(
         return Ok(None);
     }
     let at = place_between(earlier, later.place(), place);
-    let between = stand_between(present, spares, earlier, later, at, copies)?;
+    let between = stand_between(present, spares, earlier, later, at)?;
     checkpoints.insert(index, between)?;
     Ok(Some(index))
 }

@@ -1,6 +1,6 @@
 //! The type and its calls.
 
-ghost use Rattle.std.specs.Prelude.{◌≡◌, ◌+◌, ◌-◌, ◌*◌, ◌<◌, ◌≤◌, [], length, slice_get, true, false, Some, IfSome, IsOk, IfOk, OnOk, OnErr};
+ghost use Rattle.std.specs.Prelude.{◌≡◌, ◌+◌, ◌*◌, ◌<◌, ◌≤◌, [], length, slice_get, true, false, Some, IsOk, IfOk, OnOk, OnErr};
 ghost use Rattle.std.specs.List.{insert, remove};
 ghost use Rattle.retro_base.specs.declared.row.Row.{Row};
 ghost use Rattle.retro_base.specs.Answers.{answer_of, content};
@@ -10,15 +10,12 @@ ghost use Rattle.retro_base.specs.Questions.{suits};
 ghost use Rattle.retro_base.specs.Replay.{IsValid, present, state_at};
 ghost use Rattle.retro_base.specs.Timeline.{IsReplayable};
 ghost use Rattle.retro_base.specs.Visits.{OpensCounter, VisitsWithin};
-ghost use Rattle.checkpoint_full.specs.Checkpoints.{nearest_to, FitsBetween};
-ghost use Rattle.checkpoint_full.specs.Copies.{CopiesEach};
-ghost use Rattle.checkpoint_full.specs.Rule.{latest_first, FollowsRule, MakesCheckpoints};
+ghost use Rattle.checkpoint_full.specs.Rule.{FollowsRule, MakesCheckpoints};
 ghost use Rattle.checkpoint_full.specs.Widths.{narrowest};
 
 use crate::checkpoints::{drop_made, make, make_room};
-use crate::copies::Copies;
 use crate::follow::{insert_everywhere, remove_everywhere};
-use crate::past::{ask_at, list_at, nearest_earlier};
+use crate::past::{ask_at, list_at};
 use crate::reader::Reader;
 use crate::settle::settle;
 use crate::snapshot::Snapshot;
@@ -46,7 +43,7 @@ use std::sync::ledger::{Blank, Ledger};
 /// 31, and each performs the first rows of the timeline, as many as it stands for.
 ///
 /// Where many questions have followed one another closely, a copy of a checkpoint is moved to each of their places in
-/// turn. `follow` makes it, as part of `ask` and `all`; contracts do not see it.
+/// turn; contracts do not see it.
 #[derive(Drop)]
 pub struct Full<P: Partial + Drop> {
     alloc: Global,
@@ -66,7 +63,7 @@ impl<P: Partial + Drop> Model for Full<P> {
 
     ghost view = { λ f. seen f.width f.present f.checkpoints.items };
 
-    ghost invariant = { λ f. KeepsRule f.width f.present f.checkpoints.items × IfSome f.reader.copy (HoldsFirstRows f.present)
+    ghost invariant = { λ f. KeepsRule f.width f.present f.checkpoints.items × IfSome f.reader (HoldsFirstRows f.present)
         × AllByRecursion (HoldsFirstRows f.present) f.spares.items };
 }
 
@@ -87,10 +84,8 @@ impl<P: Partial + Drop> Full<P> {
     }
 
     /// The answer to a question about the state at a place, after so many rows. The rows stay, whatever the answer, and
-    /// so do the checkpoints where they had been made; then it visits at most 432 nodes for each row after the nearest
-    /// checkpoint that is not later and 144 more, and each binary digit of one more than the number of rows. So it never
-    /// visits more than 432 for each row of a width and one more. Right at a checkpoint, and after all rows, it needs no
-    /// memory: it always answers. After `NoMemory` all is as before. It is `follow` and then `ask_counted`.
+    /// so do the checkpoints where they had been made; then it visits at most 432 nodes for each row of a width and one
+    /// more, and each binary digit of one more than the number of rows. After `NoMemory` all is as before.
     pub fn ask_past<L: Ledger>(
         &mut self,
         place: u32,
@@ -105,228 +100,27 @@ impl<P: Partial + Drop> Full<P> {
         ensures checkpoints { OnOk result (MakesCheckpoints self.old self.new) }
         ensures err { OnErr result (self.new ≡ self.old) }
         ensures visits { self.old.made ≡ true → VisitsWithin (432 * (self.old.width + 1)) (length self.old.rows) steps.old steps.new }
-        ensures near { self.old.made ≡ true
-            → VisitsWithin (432 * (place - nearest_to place (latest_first self.old)) + 144) (length self.old.rows) steps.old steps.new }
-        ensures here { self.old.made ≡ true → place ≡ nearest_to place (latest_first self.old) → IsOk result }
-        ensures last { self.old.made ≡ true → place ≡ length self.old.rows → IsOk result }
-    {
-        self.ask_following::<L, Brand>(place, question, steps, Blank::new(1))
-    }
-
-    /// `ask_past`, with a counter of copies of its own.
-    fn ask_following<L: Ledger, M: Ledger>(
-        &mut self,
-        place: u32,
-        question: Question,
-        steps: &mut Steps<L>,
-        blank: Blank,
-    ) -> Result<Answer, NoMemory>
-        requires within { place ≤ length self.old.rows }
-        requires suited { suits question self.old.kind ≡ true }
-        requires counter { OpensCounter blank.name M.name blank.parts M.parts }
-        ensures kind { self.new.kind ≡ self.old.kind }
-        ensures rows { self.new.rows ≡ self.old.rows }
-        ensures answer { IfOk result (λ answer. answer ≡ answer_of (state_at self.old.kind self.old.rows place) question) }
-        ensures checkpoints { OnOk result (MakesCheckpoints self.old self.new) }
-        ensures err { OnErr result (self.new ≡ self.old) }
-        ensures visits { self.old.made ≡ true → VisitsWithin (432 * (self.old.width + 1)) (length self.old.rows) steps.old steps.new }
-        ensures near { self.old.made ≡ true
-            → VisitsWithin (432 * (place - nearest_to place (latest_first self.old)) + 144) (length self.old.rows) steps.old steps.new }
-        ensures here { self.old.made ≡ true → place ≡ nearest_to place (latest_first self.old) → IsOk result }
-        ensures last { self.old.made ≡ true → place ≡ length self.old.rows → IsOk result }
-    {
-        let mut copies = Copies::<M>::new(blank);
-        self.follow(place, &mut copies);
-        self.ask_counted(place, question, steps, &mut copies)
-    }
-
-    /// `ask_past` without following, which counts what it copies too: once the checkpoints were made it copies nothing, and
-    /// before that at most once for each checkpoint that it makes.
-    pub fn ask_counted<L: Ledger, M: Ledger>(
-        &mut self,
-        place: u32,
-        question: Question,
-        steps: &mut Steps<L>,
-        copies: &mut Copies<M>,
-    ) -> Result<Answer, NoMemory>
-        requires within { place ≤ length self.old.rows }
-        requires suited { suits question self.old.kind ≡ true }
-        ensures kind { self.new.kind ≡ self.old.kind }
-        ensures rows { self.new.rows ≡ self.old.rows }
-        ensures answer { IfOk result (λ answer. answer ≡ answer_of (state_at self.old.kind self.old.rows place) question) }
-        ensures checkpoints { OnOk result (MakesCheckpoints self.old self.new) }
-        ensures err { OnErr result (self.new ≡ self.old) }
-        ensures visits { self.old.made ≡ true → VisitsWithin (432 * (self.old.width + 1)) (length self.old.rows) steps.old steps.new }
-        ensures near { self.old.made ≡ true
-            → VisitsWithin (432 * (place - nearest_to place (latest_first self.old)) + 144) (length self.old.rows) steps.old steps.new }
-        ensures here { self.old.made ≡ true → place ≡ nearest_to place (latest_first self.old) → IsOk result }
-        ensures last { self.old.made ≡ true → place ≡ length self.old.rows → IsOk result }
-        ensures lent { self.old.made ≡ true → copies.new ≡ copies.old }
-        ensures each { self.old.made ≡ false → CopiesEach (length self.old.rows) copies.old copies.new }
     {
         if self.checkpoints.is_empty() {
             let least = width_for(self.present.place());
-            let made = make(self.alloc, &self.present, least, copies)?;
-            let answer = ask_at(
-                &mut self.reader,
-                made.as_slice(),
-                &self.present,
-                least,
-                place,
-                question,
-                steps,
-            )?;
+            let made = make(self.alloc, &self.present, least)?;
+            let reader = &mut self.reader;
+            let lent = made.as_slice();
+            let answer = ask_at(reader, lent, &self.present, least, place, question, steps)?;
             self.checkpoints = made;
             self.width = least;
             return Ok(answer);
         }
+        let reader = &mut self.reader;
         let lent = self.checkpoints.as_slice();
         ask_at(
-            &mut self.reader,
+            reader,
             lent,
             &self.present,
             self.width,
             place,
             question,
             steps,
-        )
-    }
-
-    /// The place is to be asked next. Nothing that is seen changes. Where as many questions as the 32nd part of the width have
-    /// followed one another, each at most 32 rows after the one before, it copies the nearest checkpoint, unless the copy
-    /// that it has is near; a question then moves that copy from place to place.
-    pub fn follow<M: Ledger>(&mut self, place: u32, copies: &mut Copies<M>)
-        requires { place ≤ length self.old.rows }
-        ensures same { self.new ≡ self.old }
-        ensures few { copies.new ≤ copies.old + 1 }
-        ensures unmade { self.old.made ≡ false → copies.new ≡ copies.old }
-    {
-        if self.checkpoints.is_empty() || place == self.present.place() {
-            return;
-        }
-        let made = self.checkpoints.as_slice();
-        let index = nearest_earlier(made, &self.present, self.width, place);
-        self.reader
-            .follow(&self.checkpoints[index], place, self.width, copies);
-    }
-
-    /// Puts the row in, as `insert` of `Retro`, and counts what it copies: one checkpoint at the most, and none where one
-    /// more row fits between the neighbours of the place. After `NoMemory` all is as before.
-    pub fn insert_counted<M: Ledger>(
-        &mut self,
-        place: u32,
-        row: Row,
-        copies: &mut Copies<M>,
-    ) -> Result<Change, NoMemory>
-        requires within { place ≤ length self.old.rows }
-        requires replayable { IsReplayable self.old.kind (insert self.old.rows place row) }
-        ensures kind { self.new.kind ≡ self.old.kind }
-        ensures rows { OnOk result (self.new.rows ≡ insert self.old.rows place row) }
-        ensures replayable { OnOk result (IsReplayable self.new.kind self.new.rows) }
-        ensures change { IfOk result (IsChange self.old.kind self.old.rows (add place row)) }
-        ensures rule { OnOk result (FollowsRule self.old (add place row) self.new) }
-        ensures err { OnErr result (self.new ≡ self.old) }
-        ensures few { copies.new ≤ copies.old + 1 }
-        ensures fits { FitsBetween self.old.width place (length self.old.rows) (latest_first self.old) → copies.new ≡ copies.old }
-    {
-        let split = make_room(
-            &self.present,
-            &mut self.checkpoints,
-            &mut self.spares,
-            self.width,
-            place,
-            copies,
-        )?;
-        let lent = self.checkpoints.as_mut_slice();
-        match insert_everywhere(&mut self.present, lent, place, row) {
-            Ok(change) => {
-                insert_in_spares(&mut self.spares, place, row);
-                self.width = settle(
-                    &self.present,
-                    &mut self.checkpoints,
-                    &mut self.spares,
-                    self.width,
-                );
-                keep_few(&self.present, &mut self.spares, self.checkpoints.len());
-                self.reader.after_edit(place);
-                Ok(change)
-            }
-            Err(error) => {
-                drop_made(&mut self.checkpoints, split);
-                Err(error)
-            }
-        }
-    }
-
-    /// `insert_counted` with a counter of its own.
-    fn insert_uncounted<M: Ledger>(
-        &mut self,
-        place: u32,
-        row: Row,
-        blank: Blank,
-    ) -> Result<Change, NoMemory>
-        requires within { place ≤ length self.old.rows }
-        requires replayable { IsReplayable self.old.kind (insert self.old.rows place row) }
-        requires counter { OpensCounter blank.name M.name blank.parts M.parts }
-        ensures kind { self.new.kind ≡ self.old.kind }
-        ensures rows { OnOk result (self.new.rows ≡ insert self.old.rows place row) }
-        ensures replayable { OnOk result (IsReplayable self.new.kind self.new.rows) }
-        ensures change { IfOk result (IsChange self.old.kind self.old.rows (add place row)) }
-        ensures rule { OnOk result (FollowsRule self.old (add place row) self.new) }
-        ensures err { OnErr result (self.new ≡ self.old) }
-    {
-        let mut copies = Copies::<M>::new(blank);
-        self.insert_counted(place, row, &mut copies)
-    }
-
-    /// The whole content at a place, after so many rows. The rows stay, whatever the answer, and so do the checkpoints
-    /// where they had been made. After `NoMemory` all is as before. It is `follow` and then `all_counted`.
-    pub fn all_past(&mut self, place: u32) -> Result<Listing, NoMemory>
-        requires { place ≤ length self.old.rows }
-        ensures kind { self.new.kind ≡ self.old.kind }
-        ensures rows { self.new.rows ≡ self.old.rows }
-        ensures content { IfOk result (λ listing. listing ≡ content (state_at self.old.kind self.old.rows place)) }
-        ensures checkpoints { OnOk result (MakesCheckpoints self.old self.new) }
-        ensures err { OnErr result (self.new ≡ self.old) }
-    {
-        self.list_following::<Brand>(place, Blank::new(1))
-    }
-
-    /// `all_past` without following, which counts what it copies, as `ask_counted` does.
-    pub fn all_counted<M: Ledger>(
-        &mut self,
-        place: u32,
-        copies: &mut Copies<M>,
-    ) -> Result<Listing, NoMemory>
-        requires { place ≤ length self.old.rows }
-        ensures kind { self.new.kind ≡ self.old.kind }
-        ensures rows { self.new.rows ≡ self.old.rows }
-        ensures content { IfOk result (λ listing. listing ≡ content (state_at self.old.kind self.old.rows place)) }
-        ensures checkpoints { OnOk result (MakesCheckpoints self.old self.new) }
-        ensures err { OnErr result (self.new ≡ self.old) }
-        ensures lent { self.old.made ≡ true → copies.new ≡ copies.old }
-        ensures each { self.old.made ≡ false → CopiesEach (length self.old.rows) copies.old copies.new }
-    {
-        if self.checkpoints.is_empty() {
-            let least = width_for(self.present.place());
-            let made = make(self.alloc, &self.present, least, copies)?;
-            let listing = list_at(
-                &mut self.reader,
-                made.as_slice(),
-                &self.present,
-                least,
-                place,
-            )?;
-            self.checkpoints = made;
-            self.width = least;
-            return Ok(listing);
-        }
-        list_at(
-            &mut self.reader,
-            self.checkpoints.as_slice(),
-            &self.present,
-            self.width,
-            place,
         )
     }
 
@@ -350,19 +144,33 @@ impl<P: Partial + Drop> Full<P> {
         self.ask_past(place, question, &mut steps)
     }
 
-    /// `all_past`, with a counter of copies of its own.
-    fn list_following<M: Ledger>(&mut self, place: u32, blank: Blank) -> Result<Listing, NoMemory>
-        requires within { place ≤ length self.old.rows }
-        requires counter { OpensCounter blank.name M.name blank.parts M.parts }
+    /// The whole content at a place, after so many rows. The rows stay, whatever the answer, and so do the checkpoints
+    /// where they had been made. After `NoMemory` all is as before.
+    pub fn all_past(&mut self, place: u32) -> Result<Listing, NoMemory>
+        requires { place ≤ length self.old.rows }
         ensures kind { self.new.kind ≡ self.old.kind }
         ensures rows { self.new.rows ≡ self.old.rows }
         ensures content { IfOk result (λ listing. listing ≡ content (state_at self.old.kind self.old.rows place)) }
         ensures checkpoints { OnOk result (MakesCheckpoints self.old self.new) }
         ensures err { OnErr result (self.new ≡ self.old) }
     {
-        let mut copies = Copies::<M>::new(blank);
-        self.follow(place, &mut copies);
-        self.all_counted(place, &mut copies)
+        if self.checkpoints.is_empty() {
+            let least = width_for(self.present.place());
+            let made = make(self.alloc, &self.present, least)?;
+            let reader = &mut self.reader;
+            let listing = list_at(reader, made.as_slice(), &self.present, least, place)?;
+            self.checkpoints = made;
+            self.width = least;
+            return Ok(listing);
+        }
+        let reader = &mut self.reader;
+        list_at(
+            reader,
+            self.checkpoints.as_slice(),
+            &self.present,
+            self.width,
+            place,
+        )
     }
 }
 
@@ -398,7 +206,32 @@ impl<P: Partial + Drop> Retro for Full<P> {
         ensures rule { OnOk result (FollowsRule self.old (add place row) self.new) }
         ensures err { OnErr result (self.new ≡ self.old) }
     {
-        self.insert_uncounted::<Brand>(place, row, Blank::new(1))
+        let split = make_room(
+            &self.present,
+            &mut self.checkpoints,
+            &mut self.spares,
+            self.width,
+            place,
+        )?;
+        let lent = self.checkpoints.as_mut_slice();
+        match insert_everywhere(&mut self.present, lent, place, row) {
+            Ok(change) => {
+                insert_in_spares(&mut self.spares, place, row);
+                self.width = settle(
+                    &self.present,
+                    &mut self.checkpoints,
+                    &mut self.spares,
+                    self.width,
+                );
+                keep_few(&self.present, &mut self.spares, self.checkpoints.len());
+                self.reader.after_edit(place);
+                Ok(change)
+            }
+            Err(error) => {
+                drop_made(&mut self.checkpoints, split);
+                Err(error)
+            }
+        }
     }
 
     /// It takes no memory, so it never answers `NoMemory`. The width and the places are then those of the rule; where no
@@ -454,5 +287,13 @@ impl<P: Partial + Drop> Retro for Full<P> {
         ensures err { OnErr result (self.new ≡ self.old) }
     {
         self.all_past(place)
+    }
+
+    /// It is the present's own listing, so it makes no checkpoints.
+    fn list_now(&mut self) -> Result<Listing, NoMemory>
+        ensures same { self.new ≡ self.old }
+        ensures content { IfOk result (λ listing. listing ≡ content (present self.old.kind self.old.rows)) }
+    {
+        self.present.all_now()
     }
 }

@@ -5,16 +5,14 @@ ghost use Rattle.retro_base.specs.Questions.{suits};
 ghost use Rattle.retro_base.specs.Replay.{state_at};
 ghost use Rattle.retro_base.specs.Visits.{VisitsWithin};
 ghost use Rattle.checkpoint_full.specs.Checkpoints.{place_of, HoldsFirstRows};
-ghost use Rattle.checkpoint_full.specs.Copies.{close_by, IsCloseAfter};
 
-use crate::copies::Copies;
 use crate::snapshot::Snapshot;
 use retro_base::{Answer, Listing, NoMemory, Partial, Question, Steps};
 use std::marker::Model;
 use std::sync::ledger::Ledger;
 
 /// A structure that was moved to a place for a question, and stays there for the next one, beside the place that was
-/// asked last and how many questions have followed one another closely.
+/// asked last and how many questions have followed one another closely. Contracts see the structure alone.
 #[derive(Drop)]
 pub(crate) struct Reader<P: Partial + Drop> {
     copy: Option<Snapshot<P>>,
@@ -23,11 +21,12 @@ pub(crate) struct Reader<P: Partial + Drop> {
 }
 
 impl<P: Partial + Drop> Model for Reader<P> {
-    ghost use Rattle.checkpoint_full.specs.Copies.{Reading};
+    ghost use Rattle.std.specs.Prelude.{Option};
+    ghost use Rattle.retro_base.specs.Timeline.{Structure};
 
-    ghost Value = { Reading };
+    ghost Value = { Option Structure };
 
-    ghost view = { λ r. record { copy = r.copy; last = r.last; run = r.run } };
+    ghost view = { λ r. r.copy };
 }
 
 /// No place was asked.
@@ -37,9 +36,7 @@ const NOWHERE: u32 = u32::MAX;
 const CLOSE: u32 = 32;
 
 /// Whether a place follows closely on the one that was asked last.
-fn follows(last: u32, place: u32) -> bool
-    ensures { result ≡ true → IsCloseAfter last place }
-{
+fn follows(last: u32, place: u32) -> bool {
     last <= place && place - last <= CLOSE
 }
 
@@ -65,10 +62,7 @@ fn is_far<P: Partial + Drop>(copy: &Snapshot<P>, place: u32, width: u32) -> bool
 }
 
 /// How many questions have followed one another closely, the one at this place among them.
-fn next_run(run: u32, last: u32, place: u32) -> u32
-    ensures more { result ≤ run + 1 }
-    ensures close { 0 < result → IsCloseAfter last place }
-{
+fn next_run(run: u32, last: u32, place: u32) -> u32 {
     if follows(last, place) {
         run.saturating_add(1)
     } else {
@@ -79,7 +73,7 @@ fn next_run(run: u32, last: u32, place: u32) -> u32
 impl<P: Partial + Drop> Reader<P> {
     /// No structure yet.
     pub(crate) fn new() -> Reader<P>
-        ensures { result.copy ≡ None }
+        ensures { result ≡ None }
     {
         Reader {
             copy: None,
@@ -90,9 +84,8 @@ impl<P: Partial + Drop> Reader<P> {
 
     /// Lets the structure go where an edit at the place changes its rows.
     pub(crate) fn after_edit(&mut self, place: u32)
-        ensures left { IfSome self.new.copy (λ copy. self.old.copy ≡ Some copy) }
-        ensures earlier { IfSome self.new.copy (λ copy. place_of copy ≤ place) }
-        ensures run { self.new.run ≡ self.old.run }
+        ensures left { IfSome self.new (λ copy. self.old ≡ Some copy) }
+        ensures earlier { IfSome self.new (λ copy. place_of copy ≤ place) }
     {
         if place < self.last {
             self.last = NOWHERE;
@@ -107,9 +100,7 @@ impl<P: Partial + Drop> Reader<P> {
     }
 
     /// Whether so many questions have followed one another closely that they are taken to go on.
-    fn goes_on(&self, width: u32) -> bool
-        ensures { result ≡ true → width / close_by ≤ self.now.run }
-    {
+    fn goes_on(&self, width: u32) -> bool {
         self.run >= width / CLOSE
     }
 
@@ -125,40 +116,39 @@ impl<P: Partial + Drop> Reader<P> {
 
     /// The place is to be asked next. Where questions have followed one another closely for long, and its structure is not
     /// near, it copies the nearest checkpoint; out of memory it has none.
-    pub(crate) fn follow<M: Ledger>(
-        &mut self,
-        checkpoint: &Snapshot<P>,
-        place: u32,
-        width: u32,
-        copies: &mut Copies<M>,
-    )
+    fn follow(&mut self, checkpoint: &Snapshot<P>, place: u32, width: u32)
         requires earlier { place_of checkpoint.now ≤ place }
-        ensures last { self.new.last ≡ place }
-        ensures run { self.new.run ≤ self.old.run + 1 }
-        ensures close { 0 < self.new.run → IsCloseAfter self.old.last place }
-        ensures copy { IfSome self.new.copy (λ copy. (self.old.copy ≡ Some copy) ⊎ (copy ≡ checkpoint.now)) }
-        ensures few { copies.new ≤ copies.old + 1 }
-        ensures rare { self.new.run < width / close_by → copies.new ≡ copies.old }
+        ensures copy { IfSome self.new (λ copy. (self.old ≡ Some copy) ⊎ (copy ≡ checkpoint.now)) }
     {
         self.run = next_run(self.run, self.last, place);
         self.last = place;
         if self.goes_on(width) && !self.is_near(checkpoint, place, width) {
-            self.copy = checkpoint.copy(copies).ok();
+            self.copy = checkpoint.copy().ok();
         }
     }
 
-    /// Gives out its structure to ask at the place, where that serves.
-    pub(crate) fn choose(
+    /// The place is asked next: `follow`, and then `choose`.
+    pub(crate) fn follow_to(
         &mut self,
         checkpoint: &Snapshot<P>,
         place: u32,
         width: u32,
     ) -> Option<Snapshot<P>>
         requires earlier { place_of checkpoint.now ≤ place }
-        ensures left { IfSome self.new.copy (λ copy. self.old.copy ≡ Some copy) }
-        ensures chosen { IfSome result (λ copy. self.old.copy ≡ Some copy) }
+        ensures left { IfSome self.new (λ copy. (self.old ≡ Some copy) ⊎ (copy ≡ checkpoint.now)) }
+        ensures chosen { IfSome result (λ copy. (self.old ≡ Some copy) ⊎ (copy ≡ checkpoint.now)) }
         ensures near { IfSome result (λ copy. (2 * (place - place_of copy) ≤ 3 * (place - place_of checkpoint.now)) × (2 * (place_of copy - place) ≤ 3 * (place - place_of checkpoint.now))) }
-        ensures run { self.new.run ≡ self.old.run }
+    {
+        self.follow(checkpoint, place, width);
+        self.choose(checkpoint, place, width)
+    }
+
+    /// Gives out its structure to ask at the place, where that serves.
+    fn choose(&mut self, checkpoint: &Snapshot<P>, place: u32, width: u32) -> Option<Snapshot<P>>
+        requires earlier { place_of checkpoint.now ≤ place }
+        ensures left { IfSome self.new (λ copy. self.old ≡ Some copy) }
+        ensures chosen { IfSome result (λ copy. self.old ≡ Some copy) }
+        ensures near { IfSome result (λ copy. (2 * (place - place_of copy) ≤ 3 * (place - place_of checkpoint.now)) × (2 * (place_of copy - place) ≤ 3 * (place - place_of checkpoint.now))) }
     {
         let goes_on = self.goes_on(width);
         let own = match &self.copy {
@@ -180,10 +170,9 @@ impl<P: Partial + Drop> Reader<P> {
         requires first { HoldsFirstRows timeline.now copy }
         requires within { place ≤ place_of timeline.now }
         requires suited { suits question timeline.now.kind ≡ true }
-        requires reads { IfSome self.old.copy (HoldsFirstRows timeline.now) }
+        requires reads { IfSome self.old (HoldsFirstRows timeline.now) }
         ensures answer { IfOk result (λ answer. answer ≡ answer_of (state_at timeline.now.kind timeline.now.rows place) question) }
-        ensures reads { IfSome self.new.copy (HoldsFirstRows timeline.now) }
-        ensures run { self.new.run ≡ self.old.run }
+        ensures reads { IfSome self.new (HoldsFirstRows timeline.now) }
         ensures visits { VisitsWithin (288 * (place - place_of copy + (place_of copy - place)) + 144) (place_of timeline.now) steps.old steps.new }
     {
         let mut copy = copy;
@@ -203,10 +192,9 @@ impl<P: Partial + Drop> Reader<P> {
     ) -> Result<Listing, NoMemory>
         requires first { HoldsFirstRows timeline.now copy }
         requires within { place ≤ place_of timeline.now }
-        requires reads { IfSome self.old.copy (HoldsFirstRows timeline.now) }
+        requires reads { IfSome self.old (HoldsFirstRows timeline.now) }
         ensures content { IfOk result (λ listing. listing ≡ content (state_at timeline.now.kind timeline.now.rows place)) }
-        ensures reads { IfSome self.new.copy (HoldsFirstRows timeline.now) }
-        ensures run { self.new.run ≡ self.old.run }
+        ensures reads { IfSome self.new (HoldsFirstRows timeline.now) }
     {
         let mut copy = copy;
         copy.bring_to(timeline, place)?;

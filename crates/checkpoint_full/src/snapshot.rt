@@ -1,5 +1,5 @@
 //! A structure with some first rows of a timeline: the present with all of them, a checkpoint with fewer.
-ghost use Rattle.std.specs.Prelude.{◌≡◌, ◌+◌, ◌-◌, ◌*◌, ◌<◌, ◌≤◌, nat_lt, slice_get, true, Some, IfSome, IsOk, IfOk, OnOk, OnErr};
+ghost use Rattle.std.specs.Prelude.{◌≡◌, ◌+◌, ◌-◌, ◌*◌, ◌<◌, ◌≤◌, nat_lt, slice_get, true, Some, IfSome, IfOk, OnOk, OnErr};
 ghost use Rattle.std.specs.List.{insert, remove};
 ghost use Rattle.retro_base.specs.declared.row.Row.{Row};
 ghost use Rattle.retro_base.specs.Answers.{answer_of, content};
@@ -12,7 +12,6 @@ ghost use Rattle.retro_base.specs.Timeline.{IsReplayable};
 ghost use Rattle.retro_base.specs.Visits.{OpensCounter, VisitsWithin};
 ghost use Rattle.checkpoint_full.specs.Checkpoints.{after, first_of, place_of, CanTake, HoldsFirstRows};
 
-use crate::copies::Copies;
 use retro_base::{
     Answer, Change, Kind, Listing, NoMemory, Op, Partial, Question, Row, Steps, uncounted,
 };
@@ -21,9 +20,7 @@ use std::sync::ledger::{Blank, Ledger};
 
 /// A structure that contracts see as its kind and its rows.
 ///
-/// No other module sees the structure inside. `copy` and `copy_at` alone copy it whole, and each steps a counter of copies,
-/// whether or not there was memory for one: a body elsewhere that copies and counts nothing, or counts it as a visit, does
-/// not compile. What the structure copies in its own `ask_after` and `list_after` is its own matter.
+/// No other module sees the structure inside.
 #[derive(Drop)]
 pub(crate) struct Snapshot<P: Partial + Drop> {
     structure: P,
@@ -189,7 +186,6 @@ impl<P: Partial + Drop> Snapshot<P> {
         requires within { place ≤ place_of timeline.now }
         requires suited { suits question timeline.now.kind ≡ true }
         ensures answer { IfOk result (λ answer. answer ≡ answer_of (state_at timeline.now.kind timeline.now.rows place) question) }
-        ensures here { place ≡ place_of self.now → IsOk result }
         ensures visits { VisitsWithin (288 * (place - place_of self.now) + 144) (place_of timeline.now) steps.old steps.new }
     {
         let own = &self.structure;
@@ -318,26 +314,19 @@ impl<P: Partial + Drop> Snapshot<P> {
         self.roll_back(place, &mut steps);
     }
 
-    /// A snapshot of the same rows, which is one copy.
-    pub(crate) fn copy<M: Ledger>(&self, copies: &mut Copies<M>) -> Result<Snapshot<P>, NoMemory>
-        ensures copy { IfOk result (λ copy. copy ≡ self.now) }
-        ensures counted { copies.new ≡ copies.old + 1 }
+    /// A snapshot of the same rows.
+    pub(crate) fn copy(&self) -> Result<Snapshot<P>, NoMemory>
+        ensures { IfOk result (λ copy. copy ≡ self.now) }
     {
-        copies.count();
         Ok(Snapshot::new(self.structure.copy()?))
     }
 
-    /// A snapshot of the first rows, up to a place, which is one copy.
-    pub(crate) fn copy_at<M: Ledger>(
-        &self,
-        place: u32,
-        copies: &mut Copies<M>,
-    ) -> Result<Snapshot<P>, NoMemory>
+    /// A snapshot of the first rows, up to a place.
+    pub(crate) fn copy_at(&self, place: u32) -> Result<Snapshot<P>, NoMemory>
         requires { place ≤ place_of self.now }
-        ensures copy { IfOk result (λ copy. copy ≡ first_of place self.now) }
-        ensures counted { copies.new ≡ copies.old + 1 }
+        ensures { IfOk result (λ copy. copy ≡ first_of place self.now) }
     {
-        let mut copy = self.copy(copies)?;
+        let mut copy = self.copy()?;
         copy.shorten::<Brand>(place, Blank::new(1));
         Ok(copy)
     }

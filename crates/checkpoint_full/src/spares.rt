@@ -3,16 +3,13 @@
 //! between them and dropped again by turns.
 ghost use Rattle.std.specs.Prelude.{◌≡◌, ◌+◌, ◌-◌, ◌≤◌, ◌⊎◌, [], length, map, position, IfSome, IfOk};
 ghost use Rattle.std.specs.List.{AllByRecursion};
-ghost use Rattle.checkpoint_full.specs.Checkpoints.{first_of, place_of, with_row, without_row, CanFollow, CanLose, HoldsFirstRows};
-ghost use Rattle.checkpoint_full.specs.Copies.{stands_within};
+ghost use Rattle.checkpoint_full.specs.Checkpoints.{first_of, place_of, stands_within, with_row, without_row, CanFollow, CanLose, HoldsFirstRows};
 ghost use Rattle.checkpoint_full.specs.Widths.{most_checkpoints};
 
-use crate::copies::Copies;
 use crate::follow::{insert_in_each, remove_in_each};
 use crate::snapshot::Snapshot;
 use crate::width::MOST_CHECKPOINTS;
 use retro_base::{NoMemory, Partial, Row};
-use std::sync::ledger::Ledger;
 
 /// Lays a structure aside, before the others, where there is memory for that.
 pub(crate) fn lay_aside<P: Partial + Drop>(
@@ -75,24 +72,22 @@ fn moved_to<P: Partial + Drop>(
 
 /// A structure at a place between two neighbours: one that was laid aside between them and is moved there, or a copy of the
 /// later neighbour without its last rows.
-pub(crate) fn stand_between<P: Partial + Drop, M: Ledger>(
+pub(crate) fn stand_between<P: Partial + Drop>(
     timeline: &Snapshot<P>,
     spares: &mut Vec<Snapshot<P>>,
     earlier: u32,
     later: &Snapshot<P>,
     place: u32,
-    copies: &mut Copies<M>,
 ) -> Result<Snapshot<P>, NoMemory>
     requires first { AllByRecursion (HoldsFirstRows timeline.now) spares.old.items }
     requires later { HoldsFirstRows timeline.now later.now }
     requires within { place ≤ place_of later.now }
     ensures first { AllByRecursion (HoldsFirstRows timeline.now) spares.new.items }
     ensures made { IfOk result (λ between. between ≡ first_of place later.now) }
-    ensures few { copies.new ≤ copies.old + 1 }
 {
     match take_between(timeline, spares, earlier, later.place()) {
         Some(spare) => moved_to(spare, later, place),
-        None => later.copy_at(place, copies),
+        None => later.copy_at(place),
     }
 }
 

@@ -1,24 +1,22 @@
 //! The structure of any kind.
 
-ghost use Rattle.std.specs.Prelude.{◌≡◌, ◌+◌, ◌-◌, ◌*◌, ◌<◌, ◌≤◌, [], length, slice_get, true, false, Some, IsOk, IfOk, OnOk, OnErr};
+ghost use Rattle.std.specs.Prelude.{◌≡◌, ◌+◌, ◌*◌, ◌<◌, ◌≤◌, [], length, slice_get, true, false, Some, IsOk, IfOk, OnOk, OnErr};
 ghost use Rattle.std.specs.List.{insert, remove};
 ghost use Rattle.retro_base.specs.declared.kind.Kind.TheVariants.{Pq};
+ghost use Rattle.retro_base.specs.declared.question.Question.TheVariants.{Size};
 ghost use Rattle.retro_base.specs.Answers.{answer_of, content};
 ghost use Rattle.retro_base.specs.Changes.{IsChange};
-ghost use Rattle.retro_base.specs.Digits.{digits};
 ghost use Rattle.retro_base.specs.Edits.{add, cut};
 ghost use Rattle.retro_base.specs.Questions.{suits};
-ghost use Rattle.retro_base.specs.Replay.{IsValid, state_at};
+ghost use Rattle.retro_base.specs.Replay.{IsValid, present, state_at};
 ghost use Rattle.retro_base.specs.Timeline.{IsReplayable};
 ghost use Rattle.retro_base.specs.Visits.{OpensCounter, VisitsWithin};
-ghost use Rattle.checkpoint_full.specs.Checkpoints.{nearest_to, FitsBetween};
-ghost use Rattle.checkpoint_full.specs.Copies.{CopiesEach};
-ghost use Rattle.checkpoint_full.specs.Rule.{latest_first, FollowsRule, MakesCheckpoints};
-ghost use Rattle.pq_fusion.specs.Searches.{VisitsUpTo};
+ghost use Rattle.checkpoint_full.specs.Rule.{FollowsRule, MakesCheckpoints};
+ghost use Rattle.pq_fusion.specs.Searches.{AskedWithin, SizedWithin};
 ghost use Rattle.engine.specs.Engine.{kind_inside, rows_inside, is_line, is_pq, is_fused, made_inside, seen_inside, width_inside, KeepsStructure};
 
 use bridge_pq::BridgeQueue;
-use checkpoint_full::{Copies, Full};
+use checkpoint_full::Full;
 use pq_fusion::FusedQueue;
 use retro_base::{Answer, Change, Kind, Listing, NoMemory, Op, Question, Retro, Row, Steps};
 use retro_deque::RetroDeque;
@@ -83,10 +81,9 @@ impl Engine {
     ///
     /// A queue, a stack and a deque visit at most 36 nodes for each binary digit of one more than the number of rows, and
     /// always answer. A priority queue whose checkpoints were made visits at most 432 for each row of their width and one
-    /// more, and each digit, and no more than 432 for each row after the nearest checkpoint that is not later, and 144; right at
-    /// a checkpoint and after all rows it always answers. The first question about its past makes them, and no question moves
-    /// them or their width. A fused priority queue visits at most 25 for each of the 64 digits of a key and each pair of those
-    /// digits, and always answers. Of a dictionary no bound is stated.
+    /// more, and each digit. The first question about its past makes them, and no question moves them or their width. A fused
+    /// priority queue visits at most 4 for each of these digits and 4 more, and each pair of digits, and where the size is asked 4
+    /// for each of them and 1 more, and each digit; it always answers. Of a dictionary no bound is stated.
     pub fn ask_past<L: Ledger>(
         &mut self,
         place: u32,
@@ -102,13 +99,10 @@ impl Engine {
         ensures line { is_line self.old ≡ true → IsOk result }
         ensures line_visits { is_line self.old ≡ true → VisitsWithin 36 (length (rows_inside self.old)) steps.old steps.new }
         ensures fused { is_fused self.old ≡ true → IsOk result }
-        ensures fused_visits { is_fused self.old ≡ true → VisitsUpTo (25 * 64 * digits (length (rows_inside self.old) + 1) * digits (length (rows_inside self.old) + 1)) steps.old steps.new }
+        ensures fused_visits { is_fused self.old ≡ true → AskedWithin (length (rows_inside self.old)) steps.old steps.new }
+        ensures fused_size { is_fused self.old ≡ true → question ≡ Size → SizedWithin (length (rows_inside self.old)) steps.old steps.new }
         ensures checkpoints { is_pq self.old ≡ true → OnOk result (MakesCheckpoints (seen_inside self.old) (seen_inside self.new)) }
         ensures visits { made_inside self.old ≡ true → VisitsWithin (432 * (width_inside self.old + 1)) (length (rows_inside self.old)) steps.old steps.new }
-        ensures near { made_inside self.old ≡ true
-            → VisitsWithin (432 * (place - nearest_to place (latest_first (seen_inside self.old))) + 144) (length (rows_inside self.old)) steps.old steps.new }
-        ensures here { made_inside self.old ≡ true → place ≡ nearest_to place (latest_first (seen_inside self.old)) → IsOk result }
-        ensures last { made_inside self.old ≡ true → place ≡ length (rows_inside self.old) → IsOk result }
         ensures err { OnErr result (self.new ≡ self.old) }
     {
         match self {
@@ -140,67 +134,6 @@ impl Engine {
     {
         let mut steps = Steps::<L>::new(blank);
         self.ask_past(place, question, &mut steps)
-    }
-
-    /// `ask_past` of one question alone, which counts what it copies too: a priority queue whose checkpoints were made copies
-    /// nothing, and before that at most once for each of them; nothing else is ever copied.
-    pub fn ask_counted<L: Ledger, M: Ledger>(
-        &mut self,
-        place: u32,
-        question: Question,
-        steps: &mut Steps<L>,
-        copies: &mut Copies<M>,
-    ) -> Result<Answer, NoMemory>
-        requires within { place ≤ length (rows_inside self.old) }
-        requires suited { suits question (kind_inside self.old) ≡ true }
-        ensures kind { kind_inside self.new ≡ kind_inside self.old }
-        ensures variant { is_fused self.new ≡ is_fused self.old }
-        ensures rows { rows_inside self.new ≡ rows_inside self.old }
-        ensures answer { IfOk result (λ answer. answer ≡ answer_of (state_at (kind_inside self.old) (rows_inside self.old) place) question) }
-        ensures line { is_line self.old ≡ true → IsOk result }
-        ensures line_visits { is_line self.old ≡ true → VisitsWithin 36 (length (rows_inside self.old)) steps.old steps.new }
-        ensures fused { is_fused self.old ≡ true → IsOk result }
-        ensures fused_visits { is_fused self.old ≡ true → VisitsUpTo (25 * 64 * digits (length (rows_inside self.old) + 1) * digits (length (rows_inside self.old) + 1)) steps.old steps.new }
-        ensures checkpoints { is_pq self.old ≡ true → OnOk result (MakesCheckpoints (seen_inside self.old) (seen_inside self.new)) }
-        ensures visits { made_inside self.old ≡ true → VisitsWithin (432 * (width_inside self.old + 1)) (length (rows_inside self.old)) steps.old steps.new }
-        ensures near { made_inside self.old ≡ true
-            → VisitsWithin (432 * (place - nearest_to place (latest_first (seen_inside self.old))) + 144) (length (rows_inside self.old)) steps.old steps.new }
-        ensures here { made_inside self.old ≡ true → place ≡ nearest_to place (latest_first (seen_inside self.old)) → IsOk result }
-        ensures last { made_inside self.old ≡ true → place ≡ length (rows_inside self.old) → IsOk result }
-        ensures lent { made_inside self.old ≡ true → copies.new ≡ copies.old }
-        ensures each { is_pq self.old ≡ true → made_inside self.old ≡ false → CopiesEach (length (rows_inside self.old)) copies.old copies.new }
-        ensures others { is_pq self.old ≡ false → copies.new ≡ copies.old }
-        ensures err { OnErr result (self.new ≡ self.old) }
-    {
-        match self {
-            Engine::Pq { inner } => inner.ask_counted(place, question, steps, copies),
-            _ => self.ask_past(place, question, steps),
-        }
-    }
-
-    /// Puts the row in, as `insert` of `Retro`, and counts what a priority queue by checkpoints copies: one checkpoint at the
-    /// most, and none where one more row fits between the neighbours of the place.
-    pub fn insert_counted<M: Ledger>(
-        &mut self,
-        place: u32,
-        row: Row,
-        copies: &mut Copies<M>,
-    ) -> Result<Change, NoMemory>
-        requires within { place ≤ length (rows_inside self.old) }
-        requires replayable { IsReplayable (kind_inside self.old) (insert (rows_inside self.old) place row) }
-        ensures keeps { KeepsStructure self.old self.new }
-        ensures rows { OnOk result (rows_inside self.new ≡ insert (rows_inside self.old) place row) }
-        ensures replayable { OnOk result (IsReplayable (kind_inside self.new) (rows_inside self.new)) }
-        ensures change { IfOk result (IsChange (kind_inside self.old) (rows_inside self.old) (add place row)) }
-        ensures rule { is_pq self.old ≡ true → OnOk result (FollowsRule (seen_inside self.old) (add place row) (seen_inside self.new)) }
-        ensures err { OnErr result (self.new ≡ self.old) }
-        ensures few { copies.new ≤ copies.old + 1 }
-        ensures fits { FitsBetween (width_inside self.old) place (length (rows_inside self.old)) (latest_first (seen_inside self.old)) → copies.new ≡ copies.old }
-    {
-        match self {
-            Engine::Pq { inner } => inner.insert_counted(place, row, copies),
-            _ => self.insert(place, row),
-        }
     }
 }
 
@@ -337,6 +270,24 @@ impl Retro for Engine {
             Engine::Dict { inner } => inner.all(place),
             Engine::Pq { inner } => inner.all(place),
             Engine::Fused { inner } => inner.all(place),
+        }
+    }
+
+    /// No question about the present makes checkpoints.
+    fn list_now(&mut self) -> Result<Listing, NoMemory>
+        ensures kind { kind_inside self.new ≡ kind_inside self.old }
+        ensures variant { is_fused self.new ≡ is_fused self.old }
+        ensures rows { rows_inside self.new ≡ rows_inside self.old }
+        ensures content { IfOk result (λ listing. listing ≡ content (present (kind_inside self.old) (rows_inside self.old))) }
+        ensures unmade { seen_inside self.new ≡ seen_inside self.old }
+    {
+        match self {
+            Engine::Queue { inner } => inner.list_now(),
+            Engine::Stack { inner } => inner.list_now(),
+            Engine::Deque { inner } => inner.list_now(),
+            Engine::Dict { inner } => inner.list_now(),
+            Engine::Pq { inner } => inner.list_now(),
+            Engine::Fused { inner } => inner.list_now(),
         }
     }
 }

@@ -8,8 +8,7 @@
 //! first question about the past makes. `Engine::fused` makes one whose past is one product instead: it keeps no checkpoints,
 //! and an edit takes longer until the past is asked.
 //!
-//! - `Engine`, with `ask_past` for a caller who counts what a question about the past visits, and `ask_counted` and `insert_counted`
-//!   for one who counts what is copied too.
+//! - `Engine`, with `ask_past` for a caller who counts what a question about the past visits.
 //! - `engine`: the type and its calls.
 #![tactic(auto)]
 

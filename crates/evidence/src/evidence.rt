@@ -6,7 +6,7 @@ use retro_base::{Change, Name, Op};
 ///
 /// `IsEvidence` of `specs/Evidence.antt` says which values are evidence: the operation is one of a priority
 /// queue, the change is not `Plain`, and both row numbers are numbers that rows can have.
-#[derive(Clone, Copy, Debug, PartialEq, Eq)]
+#[derive(Clone, Copy, PartialEq, Eq)]
 pub struct Evidence {
     /// The timeline.
     pub name: Name,

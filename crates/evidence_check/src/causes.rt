@@ -10,14 +10,18 @@ ghost use Rattle.evidence_check.specs.Truth.{cause_of, has_wrong_number, has_wro
 use crate::CheckError;
 use crate::changes::change_cause;
 use crate::numbers::{Numbers, has_number};
+use crate::pack::Pack;
 use crate::part::Part;
-use crate::rows::Rows;
 use evidence::Evidence;
 use retro_base::{MAX_ROWS, Op};
 
 /// Why evidence is refused after these rows, if it is.
 #[tactic(auto, unfolding(crate::specs::Truth::cause_of))]
-pub(crate) fn cause_of(rows: &Rows, numbers: &Numbers, evidence: &Evidence) -> Option<CheckError>
+pub(crate) fn cause_of<P: Part>(
+    rows: &Pack<P>,
+    numbers: &Numbers,
+    evidence: &Evidence,
+) -> Option<CheckError>
     requires kept { AreWeighed rows.now numbers.now }
     requires evidence { IsEvidence evidence.now }
     ensures { result ≡ cause_of (rows_of rows.now) evidence.now }
@@ -42,14 +46,14 @@ pub(crate) fn cause_of(rows: &Rows, numbers: &Numbers, evidence: &Evidence) -> O
 }
 
 /// Whether there is no room for one more row.
-fn is_full(added: bool, rows: &Rows) -> bool
+fn is_full<P: Part>(added: bool, rows: &Pack<P>) -> bool
     ensures { result ≡ is_full added (rows_of rows.now) }
 {
     added && rows.len() >= MAX_ROWS
 }
 
 /// Whether no row can be put in at the place, or none stands there to be taken out.
-fn is_outside(added: bool, place: u32, rows: &Rows) -> bool
+fn is_outside<P: Part>(added: bool, place: u32, rows: &Pack<P>) -> bool
     ensures { result ≡ is_outside added place (rows_of rows.now) }
 {
     if added {
@@ -60,7 +64,13 @@ fn is_outside(added: bool, place: u32, rows: &Rows) -> bool
 }
 
 /// Whether a row that is put in has the number of another one, or the one that is taken out has another number.
-fn has_wrong_number(added: bool, number: u32, place: u32, rows: &Rows, numbers: &Numbers) -> bool
+fn has_wrong_number<P: Part>(
+    added: bool,
+    number: u32,
+    place: u32,
+    rows: &Pack<P>,
+    numbers: &Numbers,
+) -> bool
     requires few { length rows.now ≤ most_rows }
     requires numbers { AreNumbers (rows_of rows.now) numbers.now }
     ensures { result ≡ has_wrong_number added number place (rows_of rows.now) }
@@ -76,7 +86,7 @@ fn has_wrong_number(added: bool, number: u32, place: u32, rows: &Rows, numbers: 
 }
 
 /// Whether the row that is taken out does something else.
-fn has_wrong_op(added: bool, op: Op, place: u32, rows: &Rows) -> bool
+fn has_wrong_op<P: Part>(added: bool, op: Op, place: u32, rows: &Pack<P>) -> bool
     requires { length rows.now ≤ most_rows }
     ensures { result ≡ has_wrong_op added op place (rows_of rows.now) }
 {

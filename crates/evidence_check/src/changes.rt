@@ -10,8 +10,9 @@ ghost use Rattle.evidence_check.specs.Truth.{bridge_of, cause_of, change_cause, 
 
 use crate::CheckError;
 use crate::better::later_of;
+use crate::pack::Pack;
 use crate::part::Part;
-use crate::rows::{Rows, first_bridge, last_bridge};
+use crate::rows::{first_bridge, last_bridge};
 use crate::weighed_row::{added_entry, is_same};
 use evidence::Evidence;
 use retro_base::laws::{
@@ -21,7 +22,7 @@ use retro_base::laws::{
 use retro_base::{Change, Entry};
 
 /// Why evidence is refused that tells of an edit which can be made in these rows, if it is.
-pub(crate) fn change_cause(rows: &Rows, evidence: &Evidence) -> Option<CheckError>
+pub(crate) fn change_cause<P: Part>(rows: &Pack<P>, evidence: &Evidence) -> Option<CheckError>
     requires kept { MarksSurvivors rows.now }
     requires evidence { IsEvidence evidence.now }
     requires possible { IsPqEdit (rows_of rows.now) (reported_edit evidence.now) }
@@ -36,7 +37,7 @@ pub(crate) fn change_cause(rows: &Rows, evidence: &Evidence) -> Option<CheckErro
 }
 
 /// A law: where nothing is said against evidence, its change is the one that is read off the marks.
-pub(crate) fn read_change(rows: &Rows, evidence: &Evidence)
+pub(crate) fn read_change<P: Part>(rows: &Pack<P>, evidence: &Evidence)
     requires kept { MarksSurvivors rows.now }
     requires evidence { IsEvidence evidence.now }
     requires truth { cause_of (rows_of rows.now) evidence.now ≡ None }
@@ -67,7 +68,7 @@ fn cause_against(stated: Change, read: Option<Change>) -> Option<CheckError>
 }
 
 /// What the edit changes. There is none where the rows after it do not replay.
-fn marked_change(rows: &Rows, evidence: &Evidence) -> Option<Change>
+fn marked_change<P: Part>(rows: &Pack<P>, evidence: &Evidence) -> Option<Change>
     requires kept { MarksSurvivors rows.now }
     requires inside { is_outside evidence.now.added evidence.now.place (rows_of rows.now) ≡ false }
     ensures { result ≡ marked_change rows.now evidence.now.added evidence.now.place (added_as evidence.now.op evidence.now.number) }
@@ -92,7 +93,7 @@ fn marked_change(rows: &Rows, evidence: &Evidence) -> Option<Change>
 }
 
 /// The greatest of an entry and the dead ones from the last bridge up to a place is gained.
-fn gained(rows: &Rows, place: u32, new: Option<Entry>) -> Option<Change>
+fn gained<P: Part>(rows: &Pack<P>, place: u32, new: Option<Entry>) -> Option<Change>
     requires kept { MarksSurvivors rows.now }
     requires within { place ≤ length rows.now }
     ensures { result ≡ gained rows.now place new }
@@ -103,7 +104,7 @@ fn gained(rows: &Rows, place: u32, new: Option<Entry>) -> Option<Change>
 }
 
 /// The least entry that survives from before the first bridge from a place on is lost.
-fn lost(rows: &Rows, place: u32) -> Option<Change>
+fn lost<P: Part>(rows: &Pack<P>, place: u32) -> Option<Change>
     requires kept { MarksSurvivors rows.now }
     requires within { place ≤ length rows.now }
     ensures { result ≡ lost rows.now place }
@@ -117,7 +118,7 @@ fn lost(rows: &Rows, place: u32) -> Option<Change>
 }
 
 /// Whether the entry of the row at a place survives.
-fn is_alive_at(rows: &Rows, place: u32) -> bool
+fn is_alive_at<P: Part>(rows: &Pack<P>, place: u32) -> bool
     requires { length rows.now ≤ most_rows }
     ensures { result ≡ is_alive_at rows.now place }
 {

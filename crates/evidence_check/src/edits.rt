@@ -15,8 +15,8 @@ ghost use Rattle.evidence_check.specs.Truth.{cause_of, has_number, has_wrong_num
 use crate::CheckError;
 use crate::changes::read_change;
 use crate::numbers::Numbers;
+use crate::pack::Pack;
 use crate::part::Part;
-use crate::rows::Rows;
 use crate::search::is_entry;
 use crate::weighed_row::{WeighedRow, added_entry};
 use evidence::Evidence;
@@ -25,8 +25,8 @@ use retro_base::{Change, Entry};
 use std::alloc::Global;
 
 /// Makes the edit, and its change. Memory is taken before anything is marked: without it all is as before.
-pub(crate) fn make(
-    rows: &mut Rows,
+pub(crate) fn make<P: Part>(
+    rows: &mut Pack<P>,
     numbers: &mut Numbers,
     evidence: &Evidence,
     alloc: Global,
@@ -65,7 +65,7 @@ fn is_gain(change: Change) -> bool
 }
 
 /// Where the row stands before the edit whose mark changes by it. There is none for the row of the edit itself.
-fn changed_place(rows: &Rows, evidence: &Evidence) -> Option<u32>
+fn changed_place<P: Part>(rows: &Pack<P>, evidence: &Evidence) -> Option<u32>
     requires kept { MarksSurvivors rows.now }
     requires read { marked_change rows.now evidence.now.added evidence.now.place (added_as evidence.now.op evidence.now.number) ≡ Some evidence.now.change }
     ensures { IsChanged rows.now evidence.now result }
@@ -95,7 +95,7 @@ fn is_own(evidence: &Evidence, entry: Entry) -> bool
 }
 
 /// Marks the row, if one stands somewhere.
-fn mark_at(rows: &mut Rows, changed: Option<u32>, alive: bool)
+fn mark_at<P: Part>(rows: &mut Pack<P>, changed: Option<u32>, alive: bool)
     requires few { length rows.old ≤ most_rows }
     requires within { IfSome changed (λ place. place < length rows.old) }
     ensures { rows.new ≡ marked_where changed alive rows.old }
@@ -106,7 +106,7 @@ fn mark_at(rows: &mut Rows, changed: Option<u32>, alive: bool)
 }
 
 /// Marks the row where it stands once another one was put in, or that one.
-fn mark_moved(rows: &mut Rows, added: u32, changed: Option<u32>, alive: bool)
+fn mark_moved<P: Part>(rows: &mut Pack<P>, added: u32, changed: Option<u32>, alive: bool)
     requires few { length rows.old ≤ most_rows }
     requires within { moved_place added changed < length rows.old }
     ensures { rows.new ≡ marked_at (moved_place added changed) alive rows.old }
@@ -124,8 +124,8 @@ fn mark_moved(rows: &mut Rows, added: u32, changed: Option<u32>, alive: bool)
 }
 
 /// Puts the row in, unmarked.
-fn put_in(
-    rows: &mut Rows,
+fn put_in<P: Part>(
+    rows: &mut Pack<P>,
     numbers: &mut Numbers,
     evidence: &Evidence,
     alloc: Global,
@@ -153,7 +153,7 @@ fn put_in(
 }
 
 /// Takes the row out.
-fn take_out(rows: &mut Rows, numbers: &mut Numbers, evidence: &Evidence)
+fn take_out<P: Part>(rows: &mut Pack<P>, numbers: &mut Numbers, evidence: &Evidence)
     requires few { length rows.old ≤ most_rows }
     requires within { evidence.now.place < length rows.old }
     requires own { has_wrong_number false evidence.now.number evidence.now.place (rows_of rows.old) ≡ false }

@@ -4,40 +4,29 @@ ghost use Rattle.std.specs.Prelude.{◌≡◌};
 ghost use Rattle.evidence_check.specs.declared.error.CheckError.TheVariants as causes;
 
 use std::alloc::{AllocError, AllocFailed};
-use thiserror::Error;
 
 /// Why a line of evidence is refused. Of several causes the first one is reported.
-#[derive(Clone, Copy, Debug, PartialEq, Eq, Error)]
+#[derive(Clone, Copy, Debug, PartialEq, Eq)]
 pub enum CheckError {
     /// The line is no spelling of evidence.
-    #[error("syntax")]
     Syntax,
     /// It names one timeline more than there may be.
-    #[error("timelines")]
     Timelines,
     /// A row is put in, and the timeline has as many rows as it may have.
-    #[error("full")]
     Full,
     /// A row is put in after all rows and further, or taken out where none stands.
-    #[error("place")]
     Place,
     /// A row is put in under a number that another one has, or taken out under a number that is not its own.
-    #[error("number")]
     Number,
     /// A row is taken out that does something else.
-    #[error("row")]
     Row,
     /// The rows after the edit cannot all be performed.
-    #[error("replay")]
     Replay,
     /// The stated bridge is another one.
-    #[error("bridge")]
     Bridge,
     /// The entry is another one, or is gained where one is lost.
-    #[error("entry")]
     Entry,
     /// There was no memory for one more row. This says nothing of the line.
-    #[error("there is not enough memory")]
     NoMemory,
 }
 

@@ -11,8 +11,8 @@
 //!
 //! The rows lie in vectors of vectors: a row is a part, and a pack of up to 32 parts is a part. A pack knows the sums of
 //! its rows: how many there are, their weights added up, the least of the sums of its first rows, the greatest dead
-//! entry and the least one that survives. A line reads the sums of the parts and opens only those in question, so it
-//! costs the same wherever it stands, and no replay. Contracts see a part as the list of its rows.
+//! entry and the least one that survives. A line reads the sums of the parts and opens only those in question, and replays
+//! nothing. Packs are divided and never merged: where most rows were taken out again, a line reads more parts than its rows need. Contracts see a part as the list of its rows.
 //!
 //! - `checker`: `Checker` takes the lines. `error`: `CheckError` says why one is refused. `laws`: evidence is accepted exactly where it is true.
 //! - `reported`: what was reported of one timeline. `causes`, `changes`: why a line is refused, by the rows before it.

@@ -14,7 +14,7 @@ use retro_base::laws::weights_count_the_dead;
 pub(crate) type Rows = Pack<Pack<Pack<Pack<WeighedRow>>>>;
 
 /// The last bridge up to a place.
-pub(crate) fn last_bridge(rows: &Rows, place: u32) -> u32
+pub(crate) fn last_bridge<P: Part>(rows: &Pack<P>, place: u32) -> u32
     requires kept { MarksSurvivors rows.now }
     requires within { place ≤ length rows.now }
     ensures bridge { result ≡ last_bridge (rows_of rows.now) place }
@@ -25,7 +25,7 @@ pub(crate) fn last_bridge(rows: &Rows, place: u32) -> u32
 }
 
 /// The first bridge from a place on. After all rows nothing dead is held, so there is one.
-pub(crate) fn first_bridge(rows: &Rows, place: u32) -> u32
+pub(crate) fn first_bridge<P: Part>(rows: &Pack<P>, place: u32) -> u32
     requires kept { MarksSurvivors rows.now }
     requires within { place ≤ length rows.now }
     ensures bridge { result ≡ first_bridge (rows_of rows.now) place }

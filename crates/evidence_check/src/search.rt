@@ -15,7 +15,7 @@ use crate::weighed_row::{WeighedRow, is_same};
 use retro_base::Entry;
 
 /// The part that holds a row, and how many rows stand before it.
-#[derive(Clone, Copy, Debug)]
+#[derive(Clone, Copy)]
 pub(crate) struct Held {
     pub(crate) index: usize,
     pub(crate) before: u32,

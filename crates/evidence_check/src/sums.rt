@@ -9,7 +9,7 @@ use crate::weighed_row::WeighedRow;
 use retro_base::Entry;
 
 /// The sums of some rows.
-#[derive(Clone, Copy, Debug)]
+#[derive(Clone, Copy)]
 pub(crate) struct Sums {
     /// How many rows there are.
     pub(crate) rows: u32,

@@ -9,7 +9,7 @@ ghost use Rattle.evidence_check.specs.Sums.{weight_of};
 use retro_base::{Entry, Op};
 
 /// A row of a priority queue, with a mark.
-#[derive(Clone, Copy, Debug)]
+#[derive(Clone, Copy)]
 pub(crate) struct WeighedRow {
     pub(crate) number: u32,
     pub(crate) op: Op,

@@ -14,7 +14,7 @@ use retro_base::{Op, Row};
 const WINDOW: usize = 64;
 
 /// What became of what a row put in.
-#[derive(Clone, Copy, Debug, PartialEq, Eq)]
+#[derive(Clone, Copy)]
 pub enum Fate {
     /// The row at this place took it out.
     Taken { place: u32 },

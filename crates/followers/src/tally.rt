@@ -10,7 +10,7 @@ use std::marker::Model;
 
 /// A follower that counts the entries gained and lost, and adds the keys gained less those lost. Each of the three stays at the
 /// end of its type where it would pass it.
-#[derive(Debug, Drop)]
+#[derive(Drop)]
 pub struct Tally {
     gains: u64,
     losses: u64,

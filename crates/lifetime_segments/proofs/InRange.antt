@@ -1,15 +1,15 @@
 -- Of few lifetimes, which stand by their items, those below the lower end of a query and those above its upper end answer nothing.
-use Rattle.std.proofs.Common.{◌≡◌, ℕ, zero, suc, ◌+◌, ◌≤◌, Bool, true, false, List, [], ◌∷◌, ◌++◌, length, take, drop, slice_get, Some, refl, sym, ap, ◌∙◌, arith, cond, subst}
-use Rattle.std.specs.Prelude.{◌||◌, map, slice_index_or}
+use Rattle.std.proofs.Common.{◌≡◌, ℕ, zero, suc, ◌+◌, ◌≤◌, Bool, true, false, List, [], ◌∷◌, ◌++◌, length, take, drop, slice_get, Some, refl, sym, ap, ◌∙◌, arith}
+use Rattle.std.specs.Prelude.{◌||◌, slice_index_or}
 use Rattle.std.proofs.lemmas.List.{length-append, take-append-drop}
-use Rattle.std.specs.List.{AllByRecursion, filter}
+use Rattle.std.specs.List.{AllByRecursion}
 use Rattle.std.specs.List.Sorted.{IsPartitionPoint, IsPartitionedBy}
 use Rattle.retro_base.specs.OrderLaws.{all_weaker}
 use Rattle.lifetime_segments.specs.declared.lifetime.Lifetime.{Lifetime}
 use Rattle.lifetime_segments.specs.Lawful.{most_items, AreLawful, RangeLaws, SearchLaws}
 use Rattle.lifetime_segments.specs.Ordered.{IsOrder, AreInOrder, in_order}
-use Rattle.lifetime_segments.specs.OrderedLaws.{all-in_order, in_order-absorbs, in_order-kept, in_order-ordered, length-in_order}
-use Rattle.lifetime_segments.specs.Lifetimes.{holds, items_at, stands_by_item}
+use Rattle.lifetime_segments.specs.OrderedLaws.{all-in_order, in_order-absorbs, in_order-ordered, length-in_order}
+use Rattle.lifetime_segments.specs.Lifetimes.{items_at, stands_by_item}
 use Rattle.lifetime_segments.proofs.FewLives.{items_at-all, items_at-append}
 use Rattle.lifetime_segments.proofs.Nodes.{absorbs_after, items_at-few}
 use Rattle.lifetime_segments.proofs.Places.{all_at}
@@ -34,7 +34,7 @@ item_after before x y after = neither (before y.item x.item) _ after where
   neither true b never = absurd (cc)
   neither false b _ = refl
 
-pub below-parted : {A Q P : Type 0} {before : A → A → Bool} {answer : List A → Q → P} {below above : Q → A → Bool} {settled : Q → P → Bool} (ranges : RangeLaws before answer below above settled) (query : Q) (lives : List (Lifetime A))
+pub below-parted : {A Q P : Type 0} {before : A → A → Bool} {answer : List A → Q → P} {below above : Q → A → Bool} (ranges : RangeLaws before answer below above) (query : Q) (lives : List (Lifetime A))
     → AreInOrder (stands_by_item before) lives → IsPartitionedBy (item_below below query) lives
 below-parted ranges query [] ordered i j d up within here = absurd (omega arith)
 below-parted ranges query (x ∷ xs) ordered zero zero d up within here = here
@@ -44,8 +44,8 @@ below-parted {before = before} ranges query (x ∷ xs) ordered zero (suc j) d up
 below-parted ranges query (x ∷ xs) ordered (suc i) zero d up within here = absurd (omega arith)
 below-parted ranges query (x ∷ xs) ordered (suc i) (suc j) d up within here = below-parted ranges query xs ordered.1 i j d (omega arith) (omega arith) here
 
-module _ {A Q P : Type 0} {before : A → A → Bool} {answer : List A → Q → P} {empty : P} {combined : P → P → P} {below above : Q → A → Bool} {settled : Q → P → Bool}
-    (order : IsOrder before) (laws : SearchLaws before answer empty combined) (ranges : RangeLaws before answer below above settled) (query : Q) where
+module _ {A Q P : Type 0} {before : A → A → Bool} {answer : List A → Q → P} {empty : P} {combined : P → P → P} {below above : Q → A → Bool}
+    (order : IsOrder before) (laws : SearchLaws before answer empty combined) (ranges : RangeLaws before answer below above) (query : Q) where
   -- lifetimes below it answer nothing
   pub nothing_below : (label : ℕ) (lives : List (Lifetime A)) → AllByRecursion (λ life. item_below below query life ≡ true) lives → empty ≡ answer (in_order before (items_at label lives)) query
   nothing_below label lives all =
@@ -95,37 +95,3 @@ module _ {A Q P : Type 0} {before : A → A → Bool} {answer : List A → Q →
       (in_order-absorbs order seen (in_order before rest)
       ∙ absorbs_after order seen rest
       ∙ ap (in_order before) (sym (items_at-append label (take place lives) (drop place lives)) ∙ ap (items_at label) parted))
-
-  -- the items of lifetimes in their order are in theirs, and so are the first of some that are
-  items_ordered : (label : ℕ) (lives : List (Lifetime A)) → AreInOrder (stands_by_item before) lives → AreInOrder before (items_at label lives)
-  items_ordered label [] ordered = tt
-  items_ordered label (x ∷ xs) ordered =
-      let later : AllByRecursion (λ y. before y x.item ≡ false) (items_at label xs) =
-      items_at-all (λ y. before y x.item ≡ false) label xs
-      (all_weaker (λ l. stands_by_item before l x ≡ false) (λ l. before l.item x.item ≡ false) xs (λ l after. item_after before x l after) ordered.0) in
-      elim (holds label x) as (λ b. AreInOrder before (map (λ (life : Lifetime A). life.item) (cond b (x ∷ filter (holds label) xs) (filter (holds label) xs)))) [
-        | true ↦ (later, items_ordered label xs ordered.1)
-        | false ↦ items_ordered label xs ordered.1
-      ]
-
-  all_front : (P : A → Type 0) (xs ys : List A) → AllByRecursion P (xs ++ ys) → AllByRecursion P xs
-  all_front P [] ys all = tt
-  all_front P (x ∷ xs) ys all = (all.0, all_front P xs ys all.1)
-
-  front_ordered : (xs ys : List A) → AreInOrder before (xs ++ ys) → AreInOrder before xs
-  front_ordered [] ys ordered = tt
-  front_ordered (x ∷ xs) ys ordered = (all_front (λ later. before later x ≡ false) xs ys ordered.0, front_ordered xs ys ordered.1)
-
-  -- where the answer is settled, nor do those that follow
-  pub nothing_after : (label : ℕ) (lives : List (Lifetime A)) (place : ℕ) → AreInOrder (stands_by_item before) lives
-      → settled query (answer (in_order before (items_at label (take place lives))) query) ≡ true
-      → answer (in_order before (items_at label (take place lives))) query ≡ answer (in_order before (items_at label lives)) query
-  nothing_after label lives place ordered done =
-      let seen = items_at label (take place lives) in
-      let rest = items_at label (drop place lives) in
-      let all : items_at label lives ≡ seen ++ rest = ap (items_at label) (sym (take-append-drop place lives)) ∙ items_at-append label (take place lives) (drop place lives) in
-      let both : AreInOrder before (seen ++ rest) = subst (AreInOrder before) all (items_ordered label lives ordered) in
-      let front : in_order before seen ≡ seen = in_order-kept order seen (front_ordered seen rest both) in
-      ap (λ items. answer items query) front
-      ∙ sym (ranges.of_settled seen rest query (ap (λ items. settled query (answer items query)) (sym front) ∙ done))
-      ∙ ap (λ items. answer items query) (sym (in_order-kept order (seen ++ rest) both) ∙ ap (in_order before) (sym all))

@@ -11,17 +11,12 @@ use Rattle.lifetime_segments.specs.Lawful.{most_items, AreLawful}
 use Rattle.lifetime_segments.specs.Ordered.{IsOrder, AreInOrder, put_in, in_order, is_in, without}
 use Rattle.lifetime_segments.specs.OrderedLaws.{in_order-absorbs, in_order-ordered, in_order-kept, length-in_order, is_in-put_in, without-put_in}
 use Rattle.lifetime_segments.specs.Lifetimes.{holds, items_at, stands_by_item}
-use Rattle.lifetime_segments.specs.Tries.{Has, NodeHas, HasOne, NodeHasOne, FirstHasOne, SecondHasOne, IsOf, IsOfNode, IsBare, AreSome, parts, clipped, touches}
+use Rattle.lifetime_segments.specs.Tries.{Has, LeadsTo, NodeHas, HasOne, NodeHasOne, FirstHasOne, SecondHasOne, IsOf, IsOfNode, IsBare, AreSome, parts, clipped, touches}
 use Rattle.lifetime_segments.specs.Tries.{NodeKeeps, NodeAdds, NodeTakes, AddsFirst, AddsSecond, TakesFirst, TakesSecond, is_whole, wholes}
 use Rattle.lifetime_segments.specs.Tries.{in_first, in_second, seen_from, items_below}
 use Rattle.lifetime_segments.proofs.Spans.{first-in_order, second-in_order}
 use Rattle.lifetime_segments.proofs.Parts.{whole_item, first_part, second_part, wholes-parts, first-parts, second-parts, parts-nowhere, parts-nowhere-zero}
 use Rattle.lifetime_segments.proofs.Taken.{taken}
-
--- the node is what the trie leads to
-abbrev pub LeadsTo : {A M : Type 0} → Trie A M → Node A M → Type 0
-LeadsTo (Few few) node = ⊥
-LeadsTo (Full' p items left right) node = (node.items ≡ items) × (node.left ≡ left) × (node.right ≡ right)
 
 -- a trie that was seen to be another one leads to a node that was seen to be another one
 pub leads_by : {A M : Type 0} {trie whole : Trie A M} {node inner : Node A M} → trie ≡ whole → node ≡ inner → LeadsTo whole inner → LeadsTo trie node

@@ -48,11 +48,9 @@ pub record IsAnswer {A Q P : Type 0} (before : A → A → Bool) (answer : List 
   pub answers : part ≡ answer items query
 
 -- a query has a lower and an upper end in the order: what stands before an item below the lower end is below it too, what stands
--- after an item above the upper end is above it too, items that are all below, or all above, answer as none do, and those after the
--- items of a settled answer do not change it
-pub record RangeLaws {A Q P : Type 0} (before : A → A → Bool) (answer : List A → Q → P) (below above : Q → A → Bool) (settled : Q → P → Bool) : Type 0 where
+-- after an item above the upper end is above it too, and items that are all below, or all above, answer as none do
+pub record RangeLaws {A Q P : Type 0} (before : A → A → Bool) (answer : List A → Q → P) (below above : Q → A → Bool) : Type 0 where
   pub below_downward : (query : Q) (x y : A) → before y x ≡ false → below query y ≡ true → below query x ≡ true
   pub above_upward : (query : Q) (x y : A) → before y x ≡ false → above query x ≡ true → above query y ≡ true
   pub of_below : (xs : List A) (query : Q) → AllByRecursion (λ x. below query x ≡ true) xs → answer xs query ≡ answer [] query
   pub of_above : (xs : List A) (query : Q) → AllByRecursion (λ x. above query x ≡ true) xs → answer xs query ≡ answer [] query
-  pub of_settled : (xs ys : List A) (query : Q) → settled query (answer xs query) ≡ true → answer (xs ++ ys) query ≡ answer xs query

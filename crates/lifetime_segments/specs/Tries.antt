@@ -61,6 +61,11 @@ AreSome level lives = 0 < length (parts level lives)
 abbrev pub IsNothing : {A M : Type 0} → Trie A M → Type 0
 IsNothing trie = trie ≡ Few []
 
+-- the node is what the trie leads to
+abbrev pub LeadsTo : {A M : Type 0} → Trie A M → Node A M → Type 0
+LeadsTo (Few few) node = ⊥
+LeadsTo (Full' p items left right) node = (node.items ≡ items) × (node.left ≡ left) × (node.right ≡ right)
+
 -- the trie of a span has these lifetimes: as they lie in it, or each in the span where it holds it whole, and else in its halves. So
 -- a span is divided only where there are lifetimes in it, and that of one label never into halves
 unfoldable pub IsOf : {A M : Type 0} → (A → A → Bool) → ℕ → List (Lifetime A) → Trie A M → Type 0
@@ -159,6 +164,10 @@ TakesSecond {A} before level life old new = (lives : List (Lifetime A)) → IsOf
 abbrev pub MovesFirst : {A M : Type 0} → (A → A → Bool) → ℕ → Lifetime A → ℕ → Trie A M → Trie A M → Type 0
 MovesFirst {A} before level life next old new = (lives : List (Lifetime A)) → IsOf before level (in_first level (life ∷ lives)) old → IsOf before level (in_first level (ending next life ∷ lives)) new
 
+-- whatever lifetimes were kept as these few, the node has them with one more
+abbrev pub AddsDivided : {A M : Type 0} → (A → A → Bool) → ℕ → Lifetime A → List (Lifetime A) → Node A M → Type 0
+AddsDivided {A} {M} before level life few node = (lives : List (Lifetime A)) → IsOf {M = M} before level lives (Few few) → IsOfNode before level (life ∷ lives) node
+
 -- whatever lifetimes it has, this is the answer over the items that are there at a label
 abbrev pub AnswersAt : {A M Q P : Type 0} → (A → A → Bool) → (List A → Q → P) → ℕ → ℕ → Q → Trie A M → P → Type 0
 AnswersAt {A} before answer level label query trie result =
@@ -169,10 +178,10 @@ abbrev pub NodeAnswersAt : {A M Q P : Type 0} → (A → A → Bool) → (List A
 NodeAnswersAt {A} before answer level label query node result =
     (lives : List (Lifetime A)) → IsOfNode before (suc level) lives node → length lives ≤ most_items → result ≡ answer (in_order before (items_below level label lives)) query
 
--- the same over the items of the node and those below it, whose halves have this level
+-- the same over the items of a node of this level and those below it
 abbrev pub NodeAnswersWithOwn : {A M Q P : Type 0} → (A → A → Bool) → (List A → Q → P) → ℕ → ℕ → Q → Node A M → P → Type 0
 NodeAnswersWithOwn {A} before answer level label query node result =
-    (lives : List (Lifetime A)) → IsOfNode before (suc level) lives node → length lives ≤ most_items → result ≡ answer (in_order before (items_at label lives)) query
+    (lives : List (Lifetime A)) → IsOfNode before level lives node → length lives ≤ most_items → result ≡ answer (in_order before (items_at label lives)) query
 
 -- whatever lifetimes it has, the items that are there at a label were added to others, all of them in any order
 abbrev pub CollectsAt : {A M : Type 0} → (A → A → Bool) → ℕ → ℕ → Trie A M → List A → List A → Type 0

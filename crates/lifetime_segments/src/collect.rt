@@ -3,9 +3,9 @@ ghost use Rattle.std.specs.Prelude.{◌≡◌, ◌<◌, ◌≤◌, ◌^◌, ◌+
 ghost use Rattle.lifetime_segments.specs.Lifetimes.{items_at};
 ghost use Rattle.lifetime_segments.specs.Tries.{CollectsAt, NodeCollectsAt};
 
-use crate::decomposable::Decomposable;
 use crate::life_list::LifeList;
 use crate::lifetime::labels;
+use crate::sorted::Order;
 use crate::trie::{Node, Trie};
 use monoid_laws::Measured;
 use retro_base::NoMemory;
@@ -13,32 +13,32 @@ use std::alloc::Global;
 use weighted_tree::{Tree, uncounted};
 
 /// The items in the spans above a label, span by span.
-pub(crate) fn collected<D: Decomposable>(
-    root: &Trie<D::Item>,
+pub(crate) fn collected<O: Order>(
+    root: &Trie<O::Item>,
     level: u32,
     label: u64,
     alloc: Global,
-) -> Result<Vec<D::Item>, NoMemory>
+) -> Result<Vec<O::Item>, NoMemory>
     requires level { level ≤ 40 }
     requires within { label < 2 ^ level }
-    ensures { IfOk result (λ items. CollectsAt D.stands_before level label root.now [] items.items) }
+    ensures { IfOk result (λ items. CollectsAt O.stands_before level label root.now [] items.items) }
 {
     let mut items = Vec::new(alloc);
-    collect::<D>(root, level, label, &mut items)?;
+    collect::<O>(root, level, label, &mut items)?;
     Ok(items)
 }
 
 /// Appends the items in the spans above a label.
 #[cycle(collect)]
-fn collect<D: Decomposable>(
-    trie: &Trie<D::Item>,
+fn collect<O: Order>(
+    trie: &Trie<O::Item>,
     level: u32,
     label: u64,
-    items: &mut Vec<D::Item>,
+    items: &mut Vec<O::Item>,
 ) -> Result<(), NoMemory>
     requires level { level ≤ 40 }
     requires within { label < 2 ^ level }
-    ensures { OnOk result (CollectsAt D.stands_before level label trie.now items.old.items items.new.items) }
+    ensures { OnOk result (CollectsAt O.stands_before level label trie.now items.old.items items.new.items) }
 {
     let node = match trie {
         Trie::Few(few) => return append_few(few, label, items),
@@ -48,26 +48,26 @@ fn collect<D: Decomposable>(
     if level == 0 {
         return Ok(());
     }
-    collect_half::<D>(node, level - 1, label, items)
+    collect_half::<O>(node, level - 1, label, items)
 }
 
 /// Appends the items in the spans below a node and above a label.
 #[cycle(collect)]
-fn collect_half<D: Decomposable>(
-    node: &Node<D::Item>,
+fn collect_half<O: Order>(
+    node: &Node<O::Item>,
     level: u32,
     label: u64,
-    items: &mut Vec<D::Item>,
+    items: &mut Vec<O::Item>,
 ) -> Result<(), NoMemory>
     requires level { level < 40 }
     requires within { label < 2 ^ suc level }
-    ensures { OnOk result (NodeCollectsAt D.stands_before level label node.now items.old.items items.new.items) }
+    ensures { OnOk result (NodeCollectsAt O.stands_before level label node.now items.old.items items.new.items) }
 {
     let half = labels(level);
     if label < half {
-        collect::<D>(&node.left, level, label, items)
+        collect::<O>(&node.left, level, label, items)
     } else {
-        collect::<D>(&node.right, level, label - half, items)
+        collect::<O>(&node.right, level, label - half, items)
     }
 }
 

@@ -56,17 +56,14 @@ pub trait Decomposable {
     ghost laws: { SearchLaws stands_before answer empty_part combined };
 }
 
-/// A search whose queries have a lower and an upper end in the order, and which adds one item to an answer and knows whether
-/// more can change it: a span that keeps few lifetimes is asked so.
+/// A search whose queries have a lower and an upper end in the order, and which adds one item to an answer: a span that keeps
+/// few lifetimes is asked so.
 pub trait RangeSearch: Decomposable {
     /// Whether an item stands below the lower end of a query.
     ghost below: { Self.Query → Self.Item → Bool };
 
     /// Whether an item stands above the upper end of a query.
     ghost above: { Self.Query → Self.Item → Bool };
-
-    /// Whether no items after those of an answer change it.
-    ghost settled: { Self.Query → Self.Part → Bool };
 
     /// Whether an item stands below the lower end of a query.
     fn is_below(item: &Self::Item, query: Self::Query) -> bool
@@ -76,16 +73,11 @@ pub trait RangeSearch: Decomposable {
     fn is_above(item: &Self::Item, query: Self::Query) -> bool
         ensures { result ≡ above query item.now };
 
-    /// Whether no items after those of an answer change it. Where it is never so, all items up to the upper end are looked at.
-    fn is_settled(part: &Self::Part, query: Self::Query) -> bool
-        ensures { result ≡ settled query part.now };
-
     /// The answer over the items of an answer to the query, and one more.
     fn with_one(part: Self::Part, item: &Self::Item, query: Self::Query) -> Self::Part
         requires answer { IsAnswer Self.stands_before Self.answer query part }
         ensures { result ≡ Self.combined part (Self.answer (item.now ∷ []) query) };
 
-    /// What is below and above goes with the order, items that are all below, or all above, answer as none do, and those after the
-    /// items of a settled answer change nothing.
-    ghost range_laws: { RangeLaws Self.stands_before Self.answer below above settled };
+    /// What is below and above goes with the order, and items that are all below, or all above, answer as none do.
+    ghost range_laws: { RangeLaws Self.stands_before Self.answer below above };
 }

@@ -22,7 +22,7 @@
 //! | `new` | constant |
 //! | `add`, `take` | a search of log n in each of at most 80 spans, and up to 255 lifetimes to move in those that have few; where an `add` divides a span, one search for each of its 255 lifetimes as well, and again in a half that has all of them |
 //! | `move_end` | that of an `add` and a `take`, but for the spans that the lifetime has with either end |
-//! | `ask` | one `ask` in each of at most 41 spans and as many of `combine`; where the way ends, a search among at most 255 lifetimes, a look at each of them in the range until the answer is settled, and one `with_one` for each that holds the label |
+//! | `ask` | one `ask` in each of at most 41 spans and as many of `combine`; where the way ends, a search among at most 255 lifetimes, a look at each of them in the range, and one `with_one` for each that holds the label |
 //! | `items_at` | a walk through at most 41 spans, and through the items that it gives |
 //!
 //! `add` and `move_end` take memory in the tree or the vector of each span that a lifetime comes to, and for the node of each that is

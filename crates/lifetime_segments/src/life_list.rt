@@ -4,7 +4,7 @@ ghost use Rattle.std.specs.List.{AllByRecursion, insert, remove};
 ghost use Rattle.lifetime_segments.specs.Lifetimes.{stands_by_item};
 ghost use Rattle.lifetime_segments.specs.Ordered.{AreInOrder, put_in, is_in, without, place_in};
 
-use crate::decomposable::{Decomposable, RangeSearch};
+use crate::decomposable::RangeSearch;
 use crate::lifetime::Lifetime;
 use crate::sorted::{LivesByItem, Order, is_beside};
 use monoid_laws::Measured;
@@ -97,57 +97,57 @@ pub(crate) fn place_from<D: RangeSearch>(few: &LifeList<D::Item>, query: D::Quer
 }
 
 /// How many of the lifetimes stand before one: its place among them.
-fn life_place<D: Decomposable>(few: &LifeList<D::Item>, life: &Lifetime<D::Item>) -> usize
-    requires ordered { AreInOrder (stands_by_item D.stands_before) few.now }
-    ensures { result ≡ place_in (stands_by_item D.stands_before) life.now few.now }
+fn life_place<O: Order>(few: &LifeList<O::Item>, life: &Lifetime<O::Item>) -> usize
+    requires ordered { AreInOrder (stands_by_item O.stands_before) few.now }
+    ensures { result ≡ place_in (stands_by_item O.stands_before) life.now few.now }
 {
-    few.lives.as_slice().partition_point(|other: &Lifetime<D::Item>| LivesByItem::<D>::before(
+    few.lives.as_slice().partition_point(|other: &Lifetime<O::Item>| LivesByItem::<O>::before(
         other, life,
     ))
 }
 
 /// Puts a lifetime in at its place.
-pub(crate) fn put_life<D: Decomposable>(
-    few: &mut LifeList<D::Item>,
-    life: Lifetime<D::Item>,
+pub(crate) fn put_life<O: Order>(
+    few: &mut LifeList<O::Item>,
+    life: Lifetime<O::Item>,
 ) -> Result<(), NoMemory>
-    requires ordered { AreInOrder (stands_by_item D.stands_before) few.old }
-    ensures ok { OnOk result (few.new ≡ put_in (stands_by_item D.stands_before) life few.old) }
+    requires ordered { AreInOrder (stands_by_item O.stands_before) few.old }
+    ensures ok { OnOk result (few.new ≡ put_in (stands_by_item O.stands_before) life few.old) }
     ensures err { OnErr result (few.new ≡ few.old) }
 {
-    let place = life_place::<D>(few, &life);
+    let place = life_place::<O>(few, &life);
     few.insert(place, life)
 }
 
 /// Takes a lifetime out that is there.
-pub(crate) fn take_life<D: Decomposable>(few: &mut LifeList<D::Item>, life: Lifetime<D::Item>)
-    requires ordered { AreInOrder (stands_by_item D.stands_before) few.old }
-    requires there { is_in (stands_by_item D.stands_before) life few.old ≡ true }
-    ensures { few.new ≡ without (stands_by_item D.stands_before) life few.old }
+pub(crate) fn take_life<O: Order>(few: &mut LifeList<O::Item>, life: Lifetime<O::Item>)
+    requires ordered { AreInOrder (stands_by_item O.stands_before) few.old }
+    requires there { is_in (stands_by_item O.stands_before) life few.old ≡ true }
+    ensures { few.new ≡ without (stands_by_item O.stands_before) life few.old }
 {
-    let place = life_place::<D>(few, &life);
+    let place = life_place::<O>(few, &life);
     few.remove(place);
 }
 
 /// Takes a lifetime out that is there, and puts another one in: where that one stands in order in the place of the first, it
 /// is written there. After `NoMemory` all is as before.
-pub(crate) fn exchange_lives<D: Decomposable>(
-    few: &mut LifeList<D::Item>,
-    life: Lifetime<D::Item>,
-    other: Lifetime<D::Item>,
+pub(crate) fn exchange_lives<O: Order>(
+    few: &mut LifeList<O::Item>,
+    life: Lifetime<O::Item>,
+    other: Lifetime<O::Item>,
 ) -> Result<(), NoMemory>
-    requires ordered { AreInOrder (stands_by_item D.stands_before) few.old }
-    requires there { is_in (stands_by_item D.stands_before) life few.old ≡ true }
-    ensures ok { OnOk result (few.new ≡ without (stands_by_item D.stands_before) life (put_in (stands_by_item D.stands_before) other few.old)) }
+    requires ordered { AreInOrder (stands_by_item O.stands_before) few.old }
+    requires there { is_in (stands_by_item O.stands_before) life few.old ≡ true }
+    ensures ok { OnOk result (few.new ≡ without (stands_by_item O.stands_before) life (put_in (stands_by_item O.stands_before) other few.old)) }
     ensures err { OnErr result (few.new ≡ few.old) }
 {
-    let place = life_place::<D>(few, &life);
-    let next = life_place::<D>(few, &other);
+    let place = life_place::<O>(few, &life);
+    let next = life_place::<O>(few, &other);
     if is_beside(place, next) {
         few.replace(place, other);
         return Ok(());
     }
-    put_life::<D>(few, other)?;
-    take_life::<D>(few, life);
+    put_life::<O>(few, other)?;
+    take_life::<O>(few, life);
     Ok(())
 }

@@ -3,10 +3,9 @@ ghost use Rattle.std.specs.Prelude.{◌≡◌, ◌<◌, ◌≤◌, ◌^◌, true
 ghost use Rattle.lifetime_segments.specs.Tries.{Has, NodeHas, HasOne, NodeHasOne, FirstHasOne, Keeps, NodeKeeps, Moves, NodeMoves, MovesFirst, ending, is_whole};
 
 use crate::adding::{add_second, add_to_halves};
-use crate::decomposable::Decomposable;
 use crate::life_list::exchange_lives;
 use crate::lifetime::{Lifetime, labels};
-use crate::sorted::{ByItem, put, take_out};
+use crate::sorted::{Order, put, take_out};
 use crate::taking::{take_first, take_second};
 use crate::trie::{Node, Trie};
 use retro_base::NoMemory;
@@ -14,10 +13,10 @@ use std::alloc::Global;
 
 /// Moves where a lifetime ends. Spans that it has with either end are left as they are.
 #[cycle(move_end)]
-pub(crate) fn move_end<D: Decomposable>(
-    trie: &mut Trie<D::Item>,
+pub(crate) fn move_end<O: Order>(
+    trie: &mut Trie<O::Item>,
     level: u32,
-    life: Lifetime<D::Item>,
+    life: Lifetime<O::Item>,
     next: u64,
     alloc: Global,
 ) -> Result<(), NoMemory>
@@ -25,25 +24,25 @@ pub(crate) fn move_end<D: Decomposable>(
     requires begins { life.from < 2 ^ level }
     requires rises { life.from < life.to }
     requires next { life.from < next }
-    requires has { Has D.stands_before level trie.old }
-    requires there { HasOne D.stands_before level life trie.old }
-    ensures ok { OnOk result (Moves D.stands_before level life next trie.old trie.new) }
-    ensures err { OnErr result (Keeps D.stands_before level trie.old trie.new) }
+    requires has { Has O.stands_before level trie.old }
+    requires there { HasOne O.stands_before level life trie.old }
+    ensures ok { OnOk result (Moves O.stands_before level life next trie.old trie.new) }
+    ensures err { OnErr result (Keeps O.stands_before level trie.old trie.new) }
 {
     match trie {
         Trie::Few(few) => {
             let moved = life.ending(next).clipped(level);
-            exchange_lives::<D>(few, life.clipped(level), moved)
+            exchange_lives::<O>(few, life.clipped(level), moved)
         }
-        Trie::Full(node) => move_in_node::<D>(node, level, life, next, alloc),
+        Trie::Full(node) => move_in_node::<O>(node, level, life, next, alloc),
     }
 }
 
 #[cycle(move_end)]
-fn move_in_node<D: Decomposable>(
-    node: &mut Node<D::Item>,
+fn move_in_node<O: Order>(
+    node: &mut Node<O::Item>,
     level: u32,
-    life: Lifetime<D::Item>,
+    life: Lifetime<O::Item>,
     next: u64,
     alloc: Global,
 ) -> Result<(), NoMemory>
@@ -51,28 +50,28 @@ fn move_in_node<D: Decomposable>(
     requires begins { life.from < 2 ^ level }
     requires rises { life.from < life.to }
     requires next { life.from < next }
-    requires has { NodeHas D.stands_before level node.old }
-    requires there { NodeHasOne D.stands_before level life node.old }
-    ensures ok { OnOk result (NodeMoves D.stands_before level life next node.old node.new) }
-    ensures err { OnErr result (NodeKeeps D.stands_before level node.old node.new) }
+    requires has { NodeHas O.stands_before level node.old }
+    requires there { NodeHasOne O.stands_before level life node.old }
+    ensures ok { OnOk result (NodeMoves O.stands_before level life next node.old node.new) }
+    ensures err { OnErr result (NodeKeeps O.stands_before level node.old node.new) }
 {
     if life.is_whole(level) {
         if life.ending(next).is_whole(level) {
             return Ok(());
         }
-        return break_up::<D>(node, level - 1, life, next, alloc);
+        return break_up::<O>(node, level - 1, life, next, alloc);
     }
     if life.ending(next).is_whole(level) {
-        return make_whole::<D>(node, level - 1, life, next);
+        return make_whole::<O>(node, level - 1, life, next);
     }
-    move_in_halves::<D>(node, level - 1, life, next, alloc)
+    move_in_halves::<O>(node, level - 1, life, next, alloc)
 }
 
 /// A lifetime that held a whole span ends in it: its item goes from the node into the halves.
-fn break_up<D: Decomposable>(
-    node: &mut Node<D::Item>,
+fn break_up<O: Order>(
+    node: &mut Node<O::Item>,
     level: u32,
-    life: Lifetime<D::Item>,
+    life: Lifetime<O::Item>,
     next: u64,
     alloc: Global,
 ) -> Result<(), NoMemory>
@@ -80,21 +79,21 @@ fn break_up<D: Decomposable>(
     requires next { life.from < next }
     requires whole { is_whole (suc level) life ≡ true }
     requires broken { is_whole (suc level) (ending next life) ≡ false }
-    requires has { NodeHas D.stands_before (suc level) node.old }
-    requires there { NodeHasOne D.stands_before (suc level) life node.old }
-    ensures ok { OnOk result (NodeMoves D.stands_before (suc level) life next node.old node.new) }
-    ensures err { OnErr result (NodeKeeps D.stands_before (suc level) node.old node.new) }
+    requires has { NodeHas O.stands_before (suc level) node.old }
+    requires there { NodeHasOne O.stands_before (suc level) life node.old }
+    ensures ok { OnOk result (NodeMoves O.stands_before (suc level) life next node.old node.new) }
+    ensures err { OnErr result (NodeKeeps O.stands_before (suc level) node.old node.new) }
 {
-    add_to_halves::<D>(node, level, life.ending(next), alloc)?;
-    take_out::<ByItem<D>>(&mut node.items, life.item);
+    add_to_halves::<O>(node, level, life.ending(next), alloc)?;
+    take_out::<O>(&mut node.items, life.item);
     Ok(())
 }
 
 /// A lifetime that ended in a span holds it whole: its item goes from the halves into the node.
-fn make_whole<D: Decomposable>(
-    node: &mut Node<D::Item>,
+fn make_whole<O: Order>(
+    node: &mut Node<O::Item>,
     level: u32,
-    life: Lifetime<D::Item>,
+    life: Lifetime<O::Item>,
     next: u64,
 ) -> Result<(), NoMemory>
     requires level { level < 40 }
@@ -102,23 +101,23 @@ fn make_whole<D: Decomposable>(
     requires rises { life.from < life.to }
     requires broken { is_whole (suc level) life ≡ false }
     requires whole { is_whole (suc level) (ending next life) ≡ true }
-    requires has { NodeHas D.stands_before (suc level) node.old }
-    requires there { NodeHasOne D.stands_before (suc level) life node.old }
-    ensures ok { OnOk result (NodeMoves D.stands_before (suc level) life next node.old node.new) }
-    ensures err { OnErr result (NodeKeeps D.stands_before (suc level) node.old node.new) }
+    requires has { NodeHas O.stands_before (suc level) node.old }
+    requires there { NodeHasOne O.stands_before (suc level) life node.old }
+    ensures ok { OnOk result (NodeMoves O.stands_before (suc level) life next node.old node.new) }
+    ensures err { OnErr result (NodeKeeps O.stands_before (suc level) node.old node.new) }
 {
-    put::<ByItem<D>>(&mut node.items, life.item)?;
-    take_first::<D>(&mut node.left, level, life);
-    take_second::<D>(&mut node.right, level, life);
+    put::<O>(&mut node.items, life.item)?;
+    take_first::<O>(&mut node.left, level, life);
+    take_second::<O>(&mut node.right, level, life);
     Ok(())
 }
 
 /// Where both ends lie in the second half, only that half changes.
 #[cycle(move_end)]
-fn move_in_halves<D: Decomposable>(
-    node: &mut Node<D::Item>,
+fn move_in_halves<O: Order>(
+    node: &mut Node<O::Item>,
     level: u32,
-    life: Lifetime<D::Item>,
+    life: Lifetime<O::Item>,
     next: u64,
     alloc: Global,
 ) -> Result<(), NoMemory>
@@ -128,31 +127,31 @@ fn move_in_halves<D: Decomposable>(
     requires next { life.from < next }
     requires broken { is_whole (suc level) life ≡ false }
     requires broken_next { is_whole (suc level) (ending next life) ≡ false }
-    requires has { NodeHas D.stands_before (suc level) node.old }
-    requires there { NodeHasOne D.stands_before (suc level) life node.old }
-    ensures ok { OnOk result (NodeMoves D.stands_before (suc level) life next node.old node.new) }
-    ensures err { OnErr result (NodeKeeps D.stands_before (suc level) node.old node.new) }
+    requires has { NodeHas O.stands_before (suc level) node.old }
+    requires there { NodeHasOne O.stands_before (suc level) life node.old }
+    ensures ok { OnOk result (NodeMoves O.stands_before (suc level) life next node.old node.new) }
+    ensures err { OnErr result (NodeKeeps O.stands_before (suc level) node.old node.new) }
 {
     let half = labels(level);
     if next <= half {
-        move_first::<D>(&mut node.left, level, life, next, alloc)?;
-        take_second::<D>(&mut node.right, level, life);
+        move_first::<O>(&mut node.left, level, life, next, alloc)?;
+        take_second::<O>(&mut node.right, level, life);
         return Ok(());
     }
     if half < life.to {
         let later = life.in_second(level);
-        return move_end::<D>(&mut node.right, level, later, next - half, alloc);
+        return move_end::<O>(&mut node.right, level, later, next - half, alloc);
     }
-    lengthen::<D>(node, level, life, next, alloc)
+    lengthen::<O>(node, level, life, next, alloc)
 }
 
 /// A lifetime that ended in the first half ends in the second. After out of memory in the first half, the second has the
 /// lifetimes that it had.
 #[cycle(move_end)]
-fn lengthen<D: Decomposable>(
-    node: &mut Node<D::Item>,
+fn lengthen<O: Order>(
+    node: &mut Node<O::Item>,
     level: u32,
-    life: Lifetime<D::Item>,
+    life: Lifetime<O::Item>,
     next: u64,
     alloc: Global,
 ) -> Result<(), NoMemory>
@@ -163,26 +162,26 @@ fn lengthen<D: Decomposable>(
     requires in_second { 2 ^ level < next }
     requires broken { is_whole (suc level) life ≡ false }
     requires broken_next { is_whole (suc level) (ending next life) ≡ false }
-    requires has { NodeHas D.stands_before (suc level) node.old }
-    requires there { NodeHasOne D.stands_before (suc level) life node.old }
-    ensures ok { OnOk result (NodeMoves D.stands_before (suc level) life next node.old node.new) }
-    ensures err { OnErr result (NodeKeeps D.stands_before (suc level) node.old node.new) }
+    requires has { NodeHas O.stands_before (suc level) node.old }
+    requires there { NodeHasOne O.stands_before (suc level) life node.old }
+    ensures ok { OnOk result (NodeMoves O.stands_before (suc level) life next node.old node.new) }
+    ensures err { OnErr result (NodeKeeps O.stands_before (suc level) node.old node.new) }
 {
     let longer = life.ending(next);
-    add_second::<D>(&mut node.right, level, longer, alloc)?;
-    let moved = move_first::<D>(&mut node.left, level, life, next, alloc);
+    add_second::<O>(&mut node.right, level, longer, alloc)?;
+    let moved = move_first::<O>(&mut node.left, level, life, next, alloc);
     if moved.is_err() {
-        take_second::<D>(&mut node.right, level, longer);
+        take_second::<O>(&mut node.right, level, longer);
     }
     moved
 }
 
 /// Where both ends lie past the first half, it is left as it is.
 #[cycle(move_end)]
-fn move_first<D: Decomposable>(
-    left: &mut Trie<D::Item>,
+fn move_first<O: Order>(
+    left: &mut Trie<O::Item>,
     level: u32,
-    life: Lifetime<D::Item>,
+    life: Lifetime<O::Item>,
     next: u64,
     alloc: Global,
 ) -> Result<(), NoMemory>
@@ -191,14 +190,14 @@ fn move_first<D: Decomposable>(
     requires next { life.from < next }
     requires broken { is_whole (suc level) life ≡ false }
     requires broken_next { is_whole (suc level) (ending next life) ≡ false }
-    requires has { Has D.stands_before level left.old }
-    requires there { FirstHasOne D.stands_before level life left.old }
-    ensures ok { OnOk result (MovesFirst D.stands_before level life next left.old left.new) }
-    ensures err { OnErr result (Keeps D.stands_before level left.old left.new) }
+    requires has { Has O.stands_before level left.old }
+    requires there { FirstHasOne O.stands_before level life left.old }
+    ensures ok { OnOk result (MovesFirst O.stands_before level life next left.old left.new) }
+    ensures err { OnErr result (Keeps O.stands_before level left.old left.new) }
 {
     let half = labels(level);
     if half <= life.to && half <= next {
         return Ok(());
     }
-    move_end::<D>(left, level, life, next, alloc)
+    move_end::<O>(left, level, life, next, alloc)
 }

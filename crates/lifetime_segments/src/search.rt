@@ -1,19 +1,17 @@
 //! The way to a label, and the answers on it.
 ghost use Rattle.std.specs.Prelude.{◌≡◌, ◌<◌, ◌≤◌, ◌^◌, suc, length};
-ghost use Rattle.lifetime_segments.specs.Lawful.{most_items};
+ghost use Rattle.lifetime_segments.specs.Lawful.{most_items, AnswerTogether, IsLawful};
 ghost use Rattle.lifetime_segments.specs.Lifetimes.{items_at, stands_by_item};
 ghost use Rattle.lifetime_segments.specs.Ordered.{AreInOrder, in_order};
 ghost use Rattle.lifetime_segments.specs.Tries.{Has, NodeHas, AnswersAt, NodeAnswersAt, NodeAnswersWithOwn};
 
-use crate::decomposable::RangeSearch;
+use crate::decomposable::{Decomposable, RangeSearch};
 use crate::life_list::{LifeList, place_from};
 use crate::lifetime::labels;
 use crate::trie::{Node, Trie};
+use weighted_tree::Tree;
 
 /// The answer over the items in the spans above a label, and over those of few lifetimes there.
-///
-/// Most spans have no item of their own. What needs room stands in functions that are not inlined, so that the way down has no
-/// need to keep or to clear any there.
 #[cycle(ask)]
 pub(crate) fn ask<D: RangeSearch>(
     trie: &Trie<D::Item>,
@@ -26,10 +24,28 @@ pub(crate) fn ask<D: RangeSearch>(
     requires has { Has D.stands_before level trie.now }
     ensures { AnswersAt D.stands_before D.answer level label query trie.now result }
 {
-    let node = match trie {
-        Trie::Few(few) => return ask_few::<D>(few, label, query),
-        Trie::Full(node) => node,
-    };
+    match trie {
+        Trie::Few(few) => ask_few::<D>(few, label, query),
+        Trie::Full(node) => ask_node::<D>(node, level, label, query),
+    }
+}
+
+/// The answer over the items of a node, and over those in the spans below it and above a label.
+///
+/// Most spans have no item of their own. What needs room stands in functions that are not inlined, so that the way down has no
+/// need to keep or to clear any there.
+#[cycle(ask)]
+fn ask_node<D: RangeSearch>(
+    node: &Node<D::Item>,
+    level: u32,
+    label: u64,
+    query: D::Query,
+) -> D::Part
+    requires level { level ≤ 40 }
+    requires within { label < 2 ^ level }
+    requires has { NodeHas D.stands_before level node.now }
+    ensures { NodeAnswersWithOwn D.stands_before D.answer level label query node.now result }
+{
     if level == 0 {
         return D::ask(&node.items, query);
     }
@@ -39,7 +55,7 @@ pub(crate) fn ask<D: RangeSearch>(
     ask_with_own::<D>(node, level - 1, label, query)
 }
 
-/// The answer over the items of a node, and over those in the spans below it and above a label.
+/// The same where the node has halves and items of its own.
 #[cycle(ask)]
 #[inline(never)]
 fn ask_with_own<D: RangeSearch>(
@@ -51,10 +67,19 @@ fn ask_with_own<D: RangeSearch>(
     requires level { level < 40 }
     requires within { label < 2 ^ suc level }
     requires has { NodeHas D.stands_before (suc level) node.now }
-    ensures { NodeAnswersWithOwn D.stands_before D.answer level label query node.now result }
+    ensures { NodeAnswersWithOwn D.stands_before D.answer (suc level) label query node.now result }
 {
     let below = ask_half::<D>(node, level, label, query);
-    D::combine(D::ask(&node.items, query), below)
+    with_own::<D>(&node.items, below, query)
+}
+
+/// The answer over the items of a node and those of another answer.
+fn with_own<D: Decomposable>(items: &Tree<D::Item>, below: D::Part, query: D::Query) -> D::Part
+    requires lawful { IsLawful D.stands_before items.now }
+    requires together { AnswerTogether D.stands_before D.answer (D.answer items.now query) below }
+    ensures { result ≡ D.combined (D.answer items.now query) below }
+{
+    D::combine(D::ask(items, query), below)
 }
 
 /// The answer over the items in the spans below a node and above a label.
@@ -79,7 +104,7 @@ fn ask_half<D: RangeSearch>(
 }
 
 /// The answer over the items of those of a few lifetimes that hold a label. They stand by their items, so it begins at the lower
-/// end of the query and stops at the upper one, or where the answer is settled.
+/// end of the query and stops at the upper one.
 #[inline(never)]
 fn ask_few<D: RangeSearch>(few: &LifeList<D::Item>, label: u64, query: D::Query) -> D::Part
     requires few { length few.now ≤ most_items }
@@ -94,9 +119,6 @@ fn ask_few<D: RangeSearch>(few: &LifeList<D::Item>, label: u64, query: D::Query)
         }
         if life.holds(label) {
             part = D::with_one(part, &life.item, query);
-            if D::is_settled(&part, query) {
-                return part;
-            }
         }
     }
     part

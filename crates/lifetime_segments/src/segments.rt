@@ -12,7 +12,7 @@ use crate::decomposable::{Decomposable, RangeSearch};
 use crate::lifetime::Lifetime;
 use crate::moving::move_end;
 use crate::search::ask;
-use crate::sorted::{ByStart, is_beside, place_of, position, put, take_out};
+use crate::sorted::{ByItem, ByStart, Order, is_beside, place_of, position, put, take_out};
 use crate::taking::take;
 use crate::trie::Trie;
 use retro_base::NoMemory;
@@ -64,7 +64,7 @@ impl<D: Decomposable> Segments<D> {
         ensures err { OnErr result (self.new ≡ self.old) }
     {
         let life = Lifetime { from, to, item };
-        add_held::<D>(&mut self.held, &mut self.root, life)
+        add_held::<ByItem<D>>(&mut self.held, &mut self.root, life)
     }
 
     /// Moves where a lifetime ends: the one that ends at `next` is put in, and the one that ends at `to` taken out. After
@@ -77,8 +77,8 @@ impl<D: Decomposable> Segments<D> {
         ensures err { OnErr result (self.new ≡ self.old) }
     {
         let life = Lifetime { from, to, item };
-        if let Some(place) = position::<ByStart<D>>(&self.held, &life) {
-            return move_held::<D>(&mut self.held, &mut self.root, place, life, next);
+        if let Some(place) = position::<ByStart<ByItem<D>>>(&self.held, &life) {
+            return move_held::<ByItem<D>>(&mut self.held, &mut self.root, place, life, next);
         }
         self.add(from, next, item)?;
         self.take(from, to, item);
@@ -93,7 +93,7 @@ impl<D: Decomposable> Segments<D> {
         ensures in_range { AllByRecursion IsInRange self.old }
     {
         let life = Lifetime { from, to, item };
-        take_held::<D>(&mut self.held, &mut self.root, life)
+        take_held::<ByItem<D>>(&mut self.held, &mut self.root, life)
     }
 
     /// The items of all lifetimes that hold the label, in no order of their own.
@@ -103,7 +103,7 @@ impl<D: Decomposable> Segments<D> {
         ensures few { IfOk result (λ items. length items.items ≤ most_items) }
     {
         let alloc = self.held.alloc();
-        collected::<D>(&self.root, LEVELS, label, alloc)
+        collected::<ByItem<D>>(&self.root, LEVELS, label, alloc)
     }
 }
 
@@ -117,89 +117,89 @@ impl<D: RangeSearch> Segments<D> {
     }
 }
 
-fn add_held<D: Decomposable>(
-    held: &mut Tree<Lifetime<D::Item>>,
-    root: &mut Trie<D::Item>,
-    life: Lifetime<D::Item>,
+fn add_held<O: Order>(
+    held: &mut Tree<Lifetime<O::Item>>,
+    root: &mut Trie<O::Item>,
+    life: Lifetime<O::Item>,
 ) -> Result<(), NoMemory>
     requires range { IsInRange life }
     requires room { length held.old < most_items }
-    requires held { AreHeld D.stands_before held.old root.old }
-    ensures held { AreHeld D.stands_before held.new root.new }
-    ensures ok { OnOk result (held.new ≡ put_in (stands_earlier D.stands_before) life held.old) }
+    requires held { AreHeld O.stands_before held.old root.old }
+    ensures held { AreHeld O.stands_before held.new root.new }
+    ensures ok { OnOk result (held.new ≡ put_in (stands_earlier O.stands_before) life held.old) }
     ensures err { OnErr result (held.new ≡ held.old) }
 {
-    put::<ByStart<D>>(held, life)?;
-    let added = add::<D>(root, LEVELS, life, held.alloc());
+    put::<ByStart<O>>(held, life)?;
+    let added = add::<O>(root, LEVELS, life, held.alloc());
     if added.is_err() {
-        take_out::<ByStart<D>>(held, life);
+        take_out::<ByStart<O>>(held, life);
     }
     added
 }
 
-fn take_held<D: Decomposable>(
-    held: &mut Tree<Lifetime<D::Item>>,
-    root: &mut Trie<D::Item>,
-    life: Lifetime<D::Item>,
+fn take_held<O: Order>(
+    held: &mut Tree<Lifetime<O::Item>>,
+    root: &mut Trie<O::Item>,
+    life: Lifetime<O::Item>,
 ) -> bool
-    requires held { AreHeld D.stands_before held.old root.old }
-    ensures held { AreHeld D.stands_before held.new root.new }
-    ensures found { result ≡ is_in (stands_earlier D.stands_before) life held.old }
-    ensures rest { held.new ≡ without (stands_earlier D.stands_before) life held.old }
+    requires held { AreHeld O.stands_before held.old root.old }
+    ensures held { AreHeld O.stands_before held.new root.new }
+    ensures found { result ≡ is_in (stands_earlier O.stands_before) life held.old }
+    ensures rest { held.new ≡ without (stands_earlier O.stands_before) life held.old }
 {
-    let Some(place) = position::<ByStart<D>>(held, &life) else {
+    let Some(place) = position::<ByStart<O>>(held, &life) else {
         return false;
     };
     uncounted::remove(held, place);
-    take::<D>(root, LEVELS, life);
+    take::<O>(root, LEVELS, life);
     true
 }
 
 /// Moves where a lifetime ends. Lifetimes stand by where they begin, so it mostly stays where it stands, and is replaced.
-fn move_held<D: Decomposable>(
-    held: &mut Tree<Lifetime<D::Item>>,
-    root: &mut Trie<D::Item>,
+fn move_held<O: Order>(
+    held: &mut Tree<Lifetime<O::Item>>,
+    root: &mut Trie<O::Item>,
     place: u32,
-    life: Lifetime<D::Item>,
+    life: Lifetime<O::Item>,
     next: u64,
 ) -> Result<(), NoMemory>
     requires range { IsInRange (ending next life) }
     requires room { length held.old < most_items }
-    requires place { position_in (stands_earlier D.stands_before) life held.old ≡ Some place }
-    requires held { AreHeld D.stands_before held.old root.old }
-    ensures held { AreHeld D.stands_before held.new root.new }
-    ensures ok { OnOk result (held.new ≡ without (stands_earlier D.stands_before) life (put_in (stands_earlier D.stands_before) (ending next life) held.old)) }
+    requires place { position_in (stands_earlier O.stands_before) life held.old ≡ Some place }
+    requires held { AreHeld O.stands_before held.old root.old }
+    ensures held { AreHeld O.stands_before held.new root.new }
+    ensures ok { OnOk result (held.new ≡ without (stands_earlier O.stands_before) life (put_in (stands_earlier O.stands_before) (ending next life) held.old)) }
     ensures err { OnErr result (held.new ≡ held.old) }
 {
     let moved = life.ending(next);
-    let moved_place = place_of::<ByStart<D>>(held, &moved);
+    let moved_place = place_of::<ByStart<O>>(held, &moved);
     if is_beside(place as usize, moved_place as usize) {
-        move_end::<D>(root, LEVELS, life, next, held.alloc())?;
+        move_end::<O>(root, LEVELS, life, next, held.alloc())?;
         uncounted::replace(held, place, moved);
         return Ok(());
     }
-    move_away::<D>(held, root, life, next)
+    move_away::<O>(held, root, life, next)
 }
 
 /// Moves where a lifetime ends that goes past others.
-fn move_away<D: Decomposable>(
-    held: &mut Tree<Lifetime<D::Item>>,
-    root: &mut Trie<D::Item>,
-    life: Lifetime<D::Item>,
+fn move_away<O: Order>(
+    held: &mut Tree<Lifetime<O::Item>>,
+    root: &mut Trie<O::Item>,
+    life: Lifetime<O::Item>,
     next: u64,
 ) -> Result<(), NoMemory>
     requires range { IsInRange (ending next life) }
     requires room { length held.old < most_items }
-    requires there { is_in (stands_earlier D.stands_before) life held.old ≡ true }
-    requires held { AreHeld D.stands_before held.old root.old }
-    ensures held { AreHeld D.stands_before held.new root.new }
-    ensures ok { OnOk result (held.new ≡ without (stands_earlier D.stands_before) life (put_in (stands_earlier D.stands_before) (ending next life) held.old)) }
+    requires there { is_in (stands_earlier O.stands_before) life held.old ≡ true }
+    requires held { AreHeld O.stands_before held.old root.old }
+    ensures held { AreHeld O.stands_before held.new root.new }
+    ensures ok { OnOk result (held.new ≡ without (stands_earlier O.stands_before) life (put_in (stands_earlier O.stands_before) (ending next life) held.old)) }
     ensures err { OnErr result (held.new ≡ held.old) }
 {
     let moved = life.ending(next);
-    put::<ByStart<D>>(held, moved)?;
-    let done = move_end::<D>(root, LEVELS, life, next, held.alloc());
+    put::<ByStart<O>>(held, moved)?;
+    let done = move_end::<O>(root, LEVELS, life, next, held.alloc());
     let gone = if done.is_err() { moved } else { life };
-    take_out::<ByStart<D>>(held, gone);
+    take_out::<ByStart<O>>(held, gone);
     done
 }

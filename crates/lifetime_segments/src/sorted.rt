@@ -43,36 +43,36 @@ impl<D: Decomposable> Order for ByItem<D> {
 }
 
 /// The order of a list of lifetimes: by where they begin, then by where they end, then by their items.
-pub(crate) struct ByStart<D>(PhantomData<D>);
+pub(crate) struct ByStart<O>(PhantomData<O>);
 
-impl<D: Decomposable> Order for ByStart<D> {
-    type Item = Lifetime<D::Item>;
+impl<O: Order> Order for ByStart<O> {
+    type Item = Lifetime<O::Item>;
 
-    ghost stands_before = { stands_earlier D.stands_before };
+    ghost stands_before = { stands_earlier O.stands_before };
 
-    ghost order = { earlier_order D.order };
+    ghost order = { earlier_order O.order };
 
-    fn before(first: &Lifetime<D::Item>, second: &Lifetime<D::Item>) -> bool {
+    fn before(first: &Lifetime<O::Item>, second: &Lifetime<O::Item>) -> bool {
         first.from < second.from
             || (first.from == second.from
                 && (first.to < second.to
-                    || (first.to == second.to && D::before(&first.item, &second.item))))
+                    || (first.to == second.to && O::before(&first.item, &second.item))))
     }
 }
 
 /// The order of the few lifetimes of a span: by their items, then by where they begin, then by where they end.
-pub(crate) struct LivesByItem<D>(PhantomData<D>);
+pub(crate) struct LivesByItem<O>(PhantomData<O>);
 
-impl<D: Decomposable> Order for LivesByItem<D> {
-    type Item = Lifetime<D::Item>;
+impl<O: Order> Order for LivesByItem<O> {
+    type Item = Lifetime<O::Item>;
 
-    ghost stands_before = { stands_by_item D.stands_before };
+    ghost stands_before = { stands_by_item O.stands_before };
 
-    ghost order = { by_item_order D.order };
+    ghost order = { by_item_order O.order };
 
-    fn before(first: &Lifetime<D::Item>, second: &Lifetime<D::Item>) -> bool {
-        D::before(&first.item, &second.item)
-            || (!D::before(&second.item, &first.item)
+    fn before(first: &Lifetime<O::Item>, second: &Lifetime<O::Item>) -> bool {
+        O::before(&first.item, &second.item)
+            || (!O::before(&second.item, &first.item)
                 && (first.from < second.from
                     || (first.from == second.from && first.to < second.to)))
     }

@@ -1,6 +1,6 @@
 //! The spans of labels: what lies in each of them.
 ghost use Rattle.std.specs.Prelude.{◌≡◌, true, false, IfOk};
-ghost use Rattle.lifetime_segments.specs.Tries.{IsNothing, IsBare};
+ghost use Rattle.lifetime_segments.specs.Tries.{IsNothing, IsBare, LeadsTo};
 
 use crate::life_list::LifeList;
 use monoid_laws::Measured;
@@ -37,6 +37,20 @@ impl<T: Measured> Trie<T> {
         ensures { IsNothing result }
     {
         Trie::Few(LifeList::new(alloc))
+    }
+
+    /// Has this node from now on.
+    pub(crate) fn divide(&mut self, node: Box<Node<T>>)
+        ensures { LeadsTo self.new node.value }
+    {
+        *self = Trie::Full(node);
+    }
+
+    /// Has no lifetimes from now on.
+    pub(crate) fn clear(&mut self, alloc: Global)
+        ensures { IsNothing self.new }
+    {
+        *self = Trie::new(alloc);
     }
 
     /// Whether there are no lifetimes, and no node.

@@ -7,7 +7,7 @@ use crate::Monoid;
 use std::marker::Model;
 
 /// The number of the items alone.
-#[derive(Clone, Copy, Debug, PartialEq, Eq)]
+#[derive(Clone, Copy)]
 pub struct Count {
     items: u32,
 }

@@ -9,7 +9,7 @@ use crate::Monoid;
 use std::marker::Model;
 
 /// The sum of signs and the least sum of a prefix, the empty one among them.
-#[derive(Clone, Copy, Debug, PartialEq, Eq)]
+#[derive(Clone, Copy)]
 pub struct LeastPrefix {
     items: u32,
     falls: u32,
@@ -101,7 +101,7 @@ impl Monoid for LeastPrefix {
 }
 
 /// The sum of signs and the greatest sum of a prefix, the empty one among them.
-#[derive(Clone, Copy, Debug, PartialEq, Eq)]
+#[derive(Clone, Copy)]
 pub struct GreatestPrefix {
     // Of the opposite signs, whose least prefix is this one's greatest.
     opposite: LeastPrefix,

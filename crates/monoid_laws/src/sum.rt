@@ -9,7 +9,7 @@ use crate::Monoid;
 use std::marker::Model;
 
 /// The exact sum of the items' numbers.
-#[derive(Clone, Copy, Debug, PartialEq, Eq)]
+#[derive(Clone, Copy)]
 pub struct Sum {
     items: u32,
     sum: i128,

@@ -5,8 +5,8 @@ use Rattle.std.proofs.lemmas.Option.{slice_get_read}
 use Rattle.retro_base.specs.declared.row.Entry.{Entry}
 use Rattle.retro_base.specs.EntriesInOrder.{AreInOrder}
 use Rattle.retro_base.specs.State.{comes_before}
-use Rattle.pq_fusion.specs.Chunks.{AtHead, AreChunks, AreRanked, BeginBefore, IsChunk, entries_of, starts_of}
-use Rattle.pq_fusion.specs.Searches.{SearchesWithin, VisitsUpTo}
+use Rattle.pq_fusion.specs.Chunks.{AtHead, AreChunks, AreRanked, BeginBefore, IsChunk, entries_of, most_in_chunk, starts_of}
+use Rattle.pq_fusion.specs.Searches.{SearchesList, SearchesWithin, VisitsUpTo}
 use Rattle.pq_fusion.specs.EntryCounts.{reaching}
 use Rattle.pq_fusion.proofs.Order.{not_earlier}
 use Rattle.pq_fusion.proofs.Split.{order_back, order_front}
@@ -38,6 +38,7 @@ reaching_past bound xs (y ∷ ys) order some head = reaching_front bound y xs ys
 pub record IsCounted (bound : Entry) (seen own : List Entry) (start count : ℕ) : Type 0 where
   pub order : AreInOrder own
   pub part : length own ≤ length seen
+  pub filled : length own ≤ most_in_chunk
   pub start_within : start ≤ count
   pub own_within : length own ≤ count - start
   pub counted : count - start - length own + reaching bound own ≡ reaching bound seen
@@ -201,21 +202,23 @@ module _ {A : Type 0} where
         record {
           order = subst AreInOrder (sym own_is) (last_order bound chunks begun (begun - 1) chunk own_found place_is read kept.order kept.filled);
           part = omega (arith, sums.0, all, some_is);
+          filled = omega (arith, some_is, chunk_is.1);
           start_within = omega (arith, sums.0, total);
           own_within = omega (arith, sums.0, total, some_is);
           counted = omega (arith, sums.1, total, some_is, reach_is, seen_reach);
           within = omega (arith, sums.0, sums.1, total, all, some_is, reach_is, seen_reach, reaching_few bound seen);
         }
 
-    -- the visits of one search and of both
-    pub one_search : (start end : ℕ) → SearchesWithin 1 (length given) start end → SearchesWithin 2 (length seen) start end
+    -- the visits of one search and of both: a chunk has no more entries than all of them, nor than fill it
+    pub one_search : (start end : ℕ) → SearchesWithin 1 (length given) start end → SearchesList (length seen) start end
     one_search start end visits k small =
         let fewer = visits k (omega (arith, small, ap length given_is, chunks_few chunks kept.filled, ap length seen_is)) in
         record { none_lost = fewer.none_lost; few = omega (arith, fewer.few) }
 
-    pub two_searches : (own : List Entry) (start next end : ℕ) → length own ≤ length seen → SearchesWithin 1 (length given) start next → SearchesWithin 1 (length own) next end
-        → SearchesWithin 2 (length seen) start end
-    two_searches own start next end less first second k small =
+    pub two_searches : (own : List Entry) (start next end : ℕ) → length own ≤ length seen → length own ≤ most_in_chunk → SearchesWithin 1 (length given) start next
+        → SearchesWithin 1 (length own) next end → SearchesList (length seen) start end
+    two_searches own start next end less filled first second k small =
         let one = first k (omega (arith, small, ap length given_is, chunks_few chunks kept.filled, ap length seen_is)) in
         let other = second k (omega (arith, small, less)) in
-        record { none_lost = omega (arith, one.none_lost, other.none_lost); few = omega (arith, one.few, other.few) }
+        let last = second 9 (omega (arith, filled)) in
+        record { none_lost = omega (arith, one.none_lost, other.none_lost); few = omega (arith, one.few, other.few, last.few) }

@@ -480,30 +480,3 @@ module _ {A : Type 0} where
   pub first_start : (chunks : List (Vec Entry A)) → get_or (starts_of 0 chunks) 0 0 ≡ 0
   first_start [] = refl
   first_start (first ∷ others) = refl
-
-  -- the first entry and the last one
-  pub none_at : (chunks : List (Vec Entry A)) (rank : ℕ) → length chunks ≡ 0 → None ≡ slice_get (entries_of chunks) rank
-  none_at [] rank none = refl
-  none_at (first ∷ others) rank none = absurd (omega (arith, none))
-
-  pub first_at : (chunks : List (Vec Entry A)) (chunk : Vec Entry A) (got : Option Entry) → 0 < length chunks → AreChunks chunks → chunk ≡ get_or chunks 0 chunk → got ≡ slice_get chunk.items 0
-      → got ≡ slice_get (entries_of chunks) 0
-  first_at chunks chunk got some all read got_is =
-      let there = slice_get_read chunks (length chunks) 0 chunk refl some read in
-      let own = chunk_at IsChunk chunks 0 chunk there all in
-      got_is ∙ sym (ap (λ xs. slice_get xs 0) (around chunks 0 chunk there) ∙ get_front chunk.items (entries_of (drop 1 chunks)) 0 own.0)
-
-  pub last_at : (chunks : List (Vec Entry A)) (chunk : Vec Entry A) (got : Option Entry) → 0 < length chunks → AreChunks chunks → chunk ≡ get_or chunks (length chunks - 1) chunk
-      → got ≡ slice_get chunk.items (length chunk.items - 1) → got ≡ slice_get (entries_of chunks) (length (entries_of chunks) - 1)
-  last_at chunks chunk got some all read got_is =
-      let place = length chunks - 1 in
-      let there = slice_get_read chunks (length chunks) place chunk refl (omega (arith, some)) read in
-      let own = chunk_at IsChunk chunks place chunk there all in
-      let front = entries_of (take place chunks) in
-      let behind = entries_of (drop (suc place) chunks) in
-      let none : behind ≡ [] = ap (λ n. entries_of (drop n chunks)) (let same : suc place ≡ length chunks = omega (arith, some) in same) ∙ none_behind chunks in
-      let last : length (entries_of chunks) - 1 ≡ length front + (length chunk.items - 1) =
-      omega (arith, ap length (around chunks place chunk there), length-append front (chunk.items ++ behind), length-append chunk.items behind, ap length none, own.0) in
-      got_is ∙ sym (ap (λ xs. slice_get xs (length (entries_of chunks) - 1)) (around chunks place chunk there)
-      ∙ get_behind front (chunk.items ++ behind) (length (entries_of chunks) - 1) (length chunk.items - 1) last
-      ∙ get_front chunk.items behind (length chunk.items - 1) (omega (arith, own.0)))

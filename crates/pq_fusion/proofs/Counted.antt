@@ -1,10 +1,6 @@
 -- What counts of entries come to where a piece follows, and what they say of the entry at an index.
-use Rattle.std.proofs.Common.{◌≡◌, ℕ, ℤ, zero, suc, ◌+◌, ◌-◌, ◌<◌, ◌≤◌, true, false, cond, List, [], ◌∷◌, length, drop, min, Some, refl, arith, slice_get}
+use Rattle.std.proofs.Common.{◌≡◌, ℕ, zero, suc, ◌+◌, ◌-◌, ◌<◌, ◌≤◌, true, false, cond, List, [], ◌∷◌, length, drop, min, Some, refl, arith, slice_get}
 use Rattle.std.specs.List.{AllWithin}
-use Rattle.std.specs.Prelude.{int_lt, nat_lt, ◌&&◌, ◌||◌, ◌<ℤ◌, ◌≤ℤ◌}
-use Rattle.std.specs.Ordering.{int_eq}
-use Rattle.std.proofs.lemmas.Int.{ints}
-use Rattle.std.proofs.lemmas.Bool.Decides.{nat_tests}
 use Rattle.std.proofs.lemmas.List.{length-drop}
 use Rattle.retro_base.specs.declared.row.Entry.{Entry}
 use Rattle.retro_base.specs.EntriesInOrder.{AreInOrder}
@@ -119,16 +115,3 @@ rank_missed bound (y ∷ ys) (suc index) x order there few =
       | true ↦ λ before most. rank_missed bound ys index x order.1 there (omega arith)
       | false ↦ λ after most. absurd (omega (arith, reaching_all bound y ys order.0 after))
     ] refl few
-
--- at the bound of a key
-pair_no_less : (k : ℤ) (m : ℕ) (l : ℤ) → (int_lt k l || (int_eq k l && nat_lt m 0)) ≡ false → l ≤ℤ k
-pair_no_less k m l after = grind (arith, ints, nat_tests)
-
-pair_less : (k : ℤ) (m : ℕ) (l : ℤ) → (int_lt k l || (int_eq k l && nat_lt m 0)) ≡ true → k <ℤ l
-pair_less k m l before = grind (arith, ints, nat_tests)
-
-pub key_reached : (x : Entry) (key : ℤ) → comes_before x (record { key = key; number = 0 }) ≡ false → key ≤ℤ x.key
-key_reached x key after = pair_no_less x.key x.number key after
-
-pub key_missed : (x : Entry) (key : ℤ) → comes_before x (record { key = key; number = 0 }) ≡ true → x.key <ℤ key
-key_missed x key before = pair_less x.key x.number key before

@@ -13,8 +13,6 @@ pub mod Stored
 pub mod Listed
 pub mod Carried
 pub mod Counted
-pub mod Spanned
-pub mod Halved
 pub mod Bounded
 pub mod Parted
 pub mod Passed
@@ -28,6 +26,8 @@ pub mod Edited
 pub mod Parts
 pub mod Worn
 pub mod Searched
+pub mod Paths
+pub mod Added
 pub mod Begun
 pub mod RowByRow
 pub mod Windowed

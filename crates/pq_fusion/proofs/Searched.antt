@@ -1,6 +1,7 @@
 -- A search of a rising list by halves, with its turns counted, and the visits of a walk down the tree.
-use Rattle.std.proofs.Common.{◌≡◌, ℕ, zero, suc, ◌+◌, ◌-◌, ◌*◌, ◌/◌, ◌^◌, ◌<◌, ◌≤◌, true, false, List, [], ◌∷◌, length, get_or, refl, ap, sym, ◌∙◌, arith}
+use Rattle.std.proofs.Common.{◌≡◌, ℕ, zero, suc, ◌+◌, ◌-◌, ◌*◌, ◌/◌, ◌^◌, ◌<◌, ◌≤◌, inl, inr, true, false, List, [], ◌∷◌, length, get_or, refl, ap, sym, ◌∙◌, arith}
 use Rattle.std.specs.List.{AllWithin}
+use Rattle.std.proofs.lemmas.Bool.{cases_lt}
 use Rattle.std.proofs.lemmas.Nat.{pow-add}
 use Rattle.retro_base.specs.declared.row.Entry.{Entry}
 use Rattle.retro_base.specs.EntriesInOrder.{AreInOrder}
@@ -10,7 +11,7 @@ use Rattle.retro_base.specs.declared.row.Row.{Row}
 use Rattle.pq_fusion.specs.declared.subtree.Pair.{Pair}
 use Rattle.pq_fusion.specs.Nodes.{weight, IsPairOf, IsWithinLevels}
 use Rattle.pq_fusion.specs.Pieces.{PieceParts, size_of, tolerant}
-use Rattle.pq_fusion.specs.Searches.{VisitsUpTo, run_of}
+use Rattle.pq_fusion.specs.Searches.{SearchesList, SearchesPiece, StepsWithin, VisitsUpTo}
 use Rattle.pq_fusion.proofs.Pairs.{sizes, some_earlier, some_later}
 use Rattle.pq_fusion.proofs.Sizes.{rows_size}
 
@@ -94,82 +95,48 @@ after_one most start next end one rest = record { none_lost = omega (arith, one,
 pub no_more_than : (most more start end : ℕ) → most ≤ more → VisitsUpTo most start end → VisitsUpTo more start end
 no_more_than most more start end less visits = record { none_lost = visits.none_lost; few = omega (arith, visits.few, less) }
 
--- a level more of a walk
-pub level_left : (levels d less more start next end : ℕ) → 1 ≤ d → less ≤ more → next ≡ start + 1
-    → VisitsUpTo ((levels + 1) * d + less) next end → VisitsUpTo ((suc levels + 1) * d + more) start end
-level_left levels d less more start next end some grows one rest = record {
-  none_lost = omega (arith, one, rest.none_lost);
-  few = omega (arith, one, rest.few, some, grows);
-}
+-- the lists of a piece have together no more entries than its rows are
+pub piece_few : (rows : List Row) (piece : PieceParts) → piece ≡ tolerant rows → (k : ℕ) → length rows < 2 ^ k → length piece.left + length piece.removed < 2 ^ k
+piece_few rows piece is k small = omega (arith, ap size_of is, rows_size rows, small)
 
-pub level_right : (levels whole d less more start first second end : ℕ) → 1 + whole ≤ d → less ≤ more → first ≡ start + 1 → VisitsUpTo whole first second
-    → VisitsUpTo ((levels + 1) * d + less) second end → VisitsUpTo ((suc levels + 1) * d + more) start end
-level_right levels whole d less more start first second end sum grows one left right = record {
-  none_lost = omega (arith, one, left.none_lost, right.none_lost);
-  few = omega (arith, one, left.few, right.few, sum, grows);
-}
+-- either of two lists that have together so few has fewer than half as many
+pub both_searched : (first second start between end : ℕ) → SearchesList first start between → SearchesList second between end → SearchesPiece 0 (second + first) start end
+both_searched first second start between end one two zero small =
+    let own = one 0 (omega (arith, small)) in
+    let other = two 0 (omega (arith, small)) in
+    record { none_lost = omega (arith, own.none_lost, other.none_lost); few = omega (arith, own.few, other.few) }
+both_searched first second start between end one two (suc k) small = elim (cases_lt first (2 ^ k)) [
+  | inl less ↦
+      let own = one k less in
+      let other = two (suc k) (omega (arith, small)) in
+      record { none_lost = omega (arith, own.none_lost, other.none_lost); few = omega (arith, own.few, other.few) }
+  | inr more ↦
+      let own = one (suc k) (omega (arith, small)) in
+      let other = two k (omega (arith, small, more, pow-add 2 k 1)) in
+      record { none_lost = omega (arith, own.none_lost, other.none_lost); few = omega (arith, own.few, other.few) }
+]
 
--- the lists of a piece are no longer than its rows
-pub piece_few : (rows : List Row) (piece : PieceParts) → piece ≡ tolerant rows → (k : ℕ) → length rows < 2 ^ k → (length piece.left < 2 ^ k) × (length piece.removed < 2 ^ k)
-piece_few rows piece is k small =
-    let size : size_of piece ≡ size_of (tolerant rows) = ap size_of is in
-    (omega (arith, size, rows_size rows, small), omega (arith, size, rows_size rows, small))
+-- at a node that is opened
+pub opened : (entries start next end : ℕ) → next ≡ start + 1 → SearchesPiece 0 entries next end → SearchesPiece 1 entries start end
+opened entries start next end one visits k small =
+    let all = visits k small in
+    record { none_lost = omega (arith, one, all.none_lost); few = omega (arith, one, all.few) }
 
--- walks at a pair
+-- a walk at a pair that goes through no rows, to its earlier side or past it
 module _ (rows : List Row) (pair : Pair) (root : IsPairOf rows pair) where
-  side_earlier : 4 * weight pair.earlier.rows ≤ 3 * weight rows
-  side_earlier = omega (arith, sizes rows pair root, root.sound.balanced.earlier_light)
+  pub step_left : (levels start next end : ℕ) → IsWithinLevels (weight rows) levels → next ≡ start + 1 → StepsWithin pair.earlier.rows next end
+      → VisitsUpTo ((levels + 1) * 2) start end
+  step_left zero start next end within one rest = absurd (omega (arith, within, sizes rows pair root, some_earlier rows pair root))
+  step_left (suc levels) start next end within one rest =
+      let below = rest levels (within (weight pair.earlier.rows) (omega (arith, sizes rows pair root, root.sound.balanced.earlier_light))) in
+      record { none_lost = omega (arith, one, below.none_lost); few = omega (arith, one, below.few) }
 
-  side_later : 4 * weight pair.later.rows ≤ 3 * weight rows
-  side_later = omega (arith, sizes rows pair root, root.sound.balanced.later_light)
-
-  pub walk_left : (d less more levels start next end : ℕ) → 1 ≤ d → less ≤ more → IsWithinLevels (weight rows) levels → next ≡ start + 1
-      → ((below : ℕ) → IsWithinLevels (weight pair.earlier.rows) below → VisitsUpTo ((below + 1) * d + less) next end)
-      → VisitsUpTo ((levels + 1) * d + more) start end
-  walk_left d less more zero start next end some grows within one rest = absurd (omega (arith, within, sizes rows pair root, some_earlier rows pair root))
-  walk_left d less more (suc levels) start next end some grows within one rest =
-      level_left levels d less more start next end some grows one (rest levels (within (weight pair.earlier.rows) side_earlier))
-
-  pub walk_right : (d whole less more levels start first second end : ℕ) → 1 + whole ≤ d → less ≤ more → IsWithinLevels (weight rows) levels → first ≡ start + 1
-      → VisitsUpTo whole first second
-      → ((below : ℕ) → IsWithinLevels (weight pair.later.rows) below → VisitsUpTo ((below + 1) * d + less) second end)
-      → VisitsUpTo ((levels + 1) * d + more) start end
-  walk_right d whole less more zero start first second end sum grows within one left rest = absurd (omega (arith, within, sizes rows pair root, some_later rows pair root))
-  walk_right d whole less more (suc levels) start first second end sum grows within one left rest =
-      level_right levels whole d less more start first second end sum grows one left (rest levels (within (weight pair.later.rows) side_later))
-
-  pub earlier_shorter : (k : ℕ) → length rows < 2 ^ k → length pair.earlier.rows < 2 ^ k
-  earlier_shorter k small = omega (arith, sizes rows pair root, small)
-
-  pub later_shorter : (k : ℕ) → length rows < 2 ^ k → length pair.later.rows < 2 ^ k
-  later_shorter k small = omega (arith, sizes rows pair root, small)
-
-  pub earlier_run : run_of pair.earlier.rows ≤ run_of rows
-  earlier_run = omega (arith, sizes rows pair root)
-
-  pub later_run : run_of pair.later.rows ≤ run_of rows
-  later_run = omega (arith, sizes rows pair root)
-
-  -- with no rows gone through
-  pub step_left : (levels start next end : ℕ) → IsWithinLevels (weight rows) levels → next ≡ start + 1
-      → ((below : ℕ) → IsWithinLevels (weight pair.earlier.rows) below → VisitsUpTo ((below + 1) * 2) next end) → VisitsUpTo ((levels + 1) * 2) start end
-  step_left levels start next end within one rest =
-      no_more_than ((levels + 1) * 2 + 0) ((levels + 1) * 2) start end (omega arith)
-      (walk_left 2 0 0 levels start next end (omega arith) (omega arith) within one (λ below inside. no_more_than ((below + 1) * 2) ((below + 1) * 2 + 0) next end (omega arith) (rest below inside)))
-
-  pub step_right : (levels start first second end : ℕ) → IsWithinLevels (weight rows) levels → first ≡ start + 1 → VisitsUpTo 1 first second
-      → ((below : ℕ) → IsWithinLevels (weight pair.later.rows) below → VisitsUpTo ((below + 1) * 2) second end) → VisitsUpTo ((levels + 1) * 2) start end
-  step_right levels start first second end within one left rest =
-      no_more_than ((levels + 1) * 2 + 0) ((levels + 1) * 2) start end (omega arith)
-      (walk_right 2 1 0 0 levels start first second end (omega arith) (omega arith) within one left
-      (λ below inside. no_more_than ((below + 1) * 2) ((below + 1) * 2 + 0) second end (omega arith) (rest below inside)))
-
--- a walk that ends at a node that is read whole, or in a run
-pub whole_walk : (levels k run start end : ℕ) → VisitsUpTo (1 + 4 * k) start end → VisitsUpTo ((levels + 1) * (4 * k + 2) + run) start end
-whole_walk levels k run start end visits = no_more_than (1 + 4 * k) ((levels + 1) * (4 * k + 2) + run) start end (omega arith) visits
-
-pub run_walk : (levels k some run start end : ℕ) → some ≤ run → VisitsUpTo (1 + some) start end → VisitsUpTo ((levels + 1) * (4 * k + 2) + run) start end
-run_walk levels k some run start end few visits = no_more_than (1 + some) ((levels + 1) * (4 * k + 2) + run) start end (omega (arith, few)) visits
+  pub step_right : (levels start next end : ℕ) → IsWithinLevels (weight rows) levels → next ≡ start + 1 → StepsWithin pair.later.rows next end
+      → VisitsUpTo ((levels + 1) * 2) start end
+  step_right zero start next end within one rest = absurd (omega (arith, within, sizes rows pair root, some_later rows pair root))
+  step_right (suc levels) start next end within one rest =
+      let below = rest levels (within (weight pair.later.rows) (omega (arith, sizes rows pair root, root.sound.balanced.later_light))) in
+      record { none_lost = omega (arith, one, below.none_lost); few = omega (arith, one, below.few) }
 
 -- one visit more, of a loop
 pub visits_more : (n start steps end : ℕ) → end ≡ steps + 1 → VisitsUpTo n start steps → VisitsUpTo (n + 1) start end
@@ -178,47 +145,28 @@ visits_more n start steps end one visits = record { none_lost = omega (arith, on
 pub no_change : (start end : ℕ) → end ≡ start → VisitsUpTo 0 start end
 no_change start end same = record { none_lost = omega (arith, same); few = omega (arith, same) }
 
--- a search by halves among keys, of which each turn is a walk
-pub record IsSought (width walk start steps : ℕ) : Type 0 where
-  pub turns : ℕ
-  pub narrow : width < 2 ^ turns
-  pub few : steps + turns * walk ≤ start + 64 * walk
+-- a search by halves, of which each turn has a cost of its own
+pub record IsSought (width cost turns start steps : ℕ) : Type 0 where
+  pub left : ℕ
+  pub narrow : width < 2 ^ left
+  pub few : steps + left * cost ≤ start + turns * cost
   pub none_lost : start ≤ steps
 
-pub sought_starts : (width walk start : ℕ) → width < 2 ^ 64 → IsSought width walk start start
-sought_starts width walk start narrow = record { turns = 64; narrow = narrow; few = omega arith; none_lost = omega arith }
+pub sought_starts : (width cost turns start : ℕ) → width < 2 ^ turns → IsSought width cost turns start start
+sought_starts width cost turns start narrow = record { left = turns; narrow = narrow; few = omega arith; none_lost = omega arith }
 
-pub sought_more : (width walk start steps next end : ℕ) → 0 < width → IsSought width walk start steps → next + next ≤ width → VisitsUpTo walk steps end → IsSought next walk start end
-sought_more width walk start steps next end some sought half visits = by sought.turns sought.narrow sought.few
+pub sought_more : (width cost turns start steps next end : ℕ) → 0 < width → IsSought width cost turns start steps → next + next ≤ width → VisitsUpTo cost steps end
+    → IsSought next cost turns start end
+sought_more width cost turns start steps next end some sought half visits = by sought.left sought.narrow sought.few
   where
-    by : (turns : ℕ) → width < 2 ^ turns → steps + turns * walk ≤ start + 64 * walk → IsSought next walk start end
+    by : (left : ℕ) → width < 2 ^ left → steps + left * cost ≤ start + turns * cost → IsSought next cost turns start end
     by zero narrow few = absurd (omega (arith, narrow))
-    by (suc turns) narrow few = record {
-      turns = turns;
-      narrow = omega (arith, narrow, pow-add 2 turns 1);
+    by (suc left) narrow few = record {
+      left = left;
+      narrow = omega (arith, narrow, half, pow-add 2 left 1);
       few = omega (arith, few, visits.few);
       none_lost = omega (arith, sought.none_lost, visits.none_lost);
     }
 
-pub sought_ends : (levels k run width start first second end : ℕ) → VisitsUpTo ((levels + 1) * (4 * k + 2) + run) start first → VisitsUpTo ((levels + 1) * 2) first second
-    → IsSought width ((levels + 1) * (4 * k + 2) + run) second end → VisitsUpTo ((levels + 1) * (65 * (4 * k + 2) + 2) + 65 * run) start end
-sought_ends levels k run width start first second end one two sought = record {
-  none_lost = omega (arith, one.none_lost, two.none_lost, sought.none_lost);
-  few = omega (arith, one.few, two.few, sought.few);
-}
-
-pub seek_none : (levels k run start end : ℕ) → VisitsUpTo ((levels + 1) * (4 * k + 2) + run) start end → VisitsUpTo ((levels + 1) * (65 * (4 * k + 2) + 2) + 65 * run) start end
-seek_none levels k run start end visits =
-    no_more_than ((levels + 1) * (4 * k + 2) + run) ((levels + 1) * (65 * (4 * k + 2) + 2) + 65 * run) start end (omega arith) visits
-
--- in digits: a run has no more rows than there are
-squared : (n d run : ℕ) → n + 1 < 2 ^ d → run ≤ 64 → run ≤ n → (3 * d + 1) * (65 * (4 * d + 2) + 2) + 65 * run ≤ 1600 * d * d
-squared n zero run small few less = absurd (omega (arith, small))
-squared n (suc zero) run small few less = omega (arith, small, less)
-squared n (suc (suc zero)) run small few less = omega (arith, small, less)
-squared n (suc (suc (suc d))) run small few less = omega (arith, few)
-
-pub sought_digits : (n d run start end : ℕ) → n + 1 < 2 ^ d → run ≤ 64 → run ≤ n
-    → VisitsUpTo ((3 * d + 1) * (65 * (4 * d + 2) + 2) + 65 * run) start end → VisitsUpTo (1600 * d * d) start end
-sought_digits n d run start end small few less visits =
-    no_more_than ((3 * d + 1) * (65 * (4 * d + 2) + 2) + 65 * run) (1600 * d * d) start end (squared n d run small few less) visits
+pub sought_ends : (width cost turns start steps : ℕ) → IsSought width cost turns start steps → VisitsUpTo (turns * cost) start steps
+sought_ends width cost turns start steps sought = record { none_lost = sought.none_lost; few = omega (arith, sought.few) }

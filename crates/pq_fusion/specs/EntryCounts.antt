@@ -1,11 +1,9 @@
--- What the rows before a place leave, counted and bounded without making their piece.
-use Rattle.std.specs.Prelude.{◌≡◌, ℕ, ◌+◌, ◌≤ℤ◌, List, [], ◌∷◌, length, if◌then◌else◌}
-use Rattle.std.specs.List.{AllByRecursion}
+-- What the rows before a place leave, counted without making their piece.
+use Rattle.std.specs.Prelude.{◌≡◌, ℕ, ◌+◌, List, [], ◌∷◌, length, if◌then◌else◌}
 use Rattle.retro_base.specs.declared.row.Entry.{Entry}
 use Rattle.retro_base.specs.declared.row.Row.{Row}
 use Rattle.retro_base.specs.State.{comes_before}
 use Rattle.pq_fusion.specs.declared.entry_counts.EntryCounts.{EntryCounts}
-use Rattle.pq_fusion.specs.declared.span.Span.{Span}
 use Rattle.pq_fusion.specs.Pieces.{PieceParts, IsRising, after_rows, tolerant}
 
 -- the entries that rows leave
@@ -28,11 +26,3 @@ Carries Before rows After = (piece : PieceParts) → IsRising piece → Before p
 -- the counts of what is left before some rows and after them
 abbrev pub LeadsCounts : Entry → EntryCounts → List Row → EntryCounts → Type 0
 LeadsCounts bound before rows after = Carries (λ entries. before ≡ counts_of bound entries) rows (λ entries. after ≡ counts_of bound entries)
-
--- the key of the entry lies between two others, both included
-abbrev pub LiesIn : Span → Entry → Type 0
-LiesIn span entry = (span.low ≤ℤ entry.key) × (entry.key ≤ℤ span.high)
-
--- the spans of what is left before some rows and after them
-abbrev pub LeadsSpan : Span → List Row → Span → Type 0
-LeadsSpan before rows after = Carries (AllByRecursion (LiesIn before)) rows (AllByRecursion (LiesIn after))

@@ -1,11 +1,11 @@
 -- How many visits a question about the past may make, and an edit: a node that is opened is one, and so is each turn of a search in one of
 -- its lists, and each row of a run that is gone through.
-use Rattle.std.specs.Prelude.{ℕ, min, ◌+◌, ◌*◌, ◌^◌, ◌<◌, ◌≤◌, List, length}
+use Rattle.std.specs.Prelude.{ℕ, zero, suc, min, ◌+◌, ◌-◌, ◌*◌, ◌/◌, ◌^◌, ◌<◌, ◌≤◌, List, length}
 use Rattle.retro_base.specs.declared.row.Entry.{Entry}
 use Rattle.retro_base.specs.declared.row.Row.{Row}
 use Rattle.retro_base.specs.Digits.{digits}
 use Rattle.pq_fusion.specs.Pieces.{PieceParts}
-use Rattle.pq_fusion.specs.Nodes.{weight, longest_run, IsWithinLevels}
+use Rattle.pq_fusion.specs.Nodes.{weight, IsWithinLevels}
 
 -- so many visits more, at most
 pub record VisitsUpTo (most before after : ℕ) : Type 0 where
@@ -34,24 +34,47 @@ EditVisits searches more rows before after = (levels k : ℕ) → IsWithinLevels
 abbrev pub EditedWithin : ℕ → ℕ → ℕ → Type 0
 EditedWithin rows before after = VisitsUpTo ((60 * digits (rows + 1) + 288) * digits (rows + 1)) before after
 
--- a node and the searches of its two lists, of which each is one among chunks and one within a chunk
-abbrev pub OpensWithin : ℕ → ℕ → ℕ → Type 0
-OpensWithin entries before after = (k : ℕ) → entries < 2 ^ k → VisitsUpTo (4 * k + 1) before after
+-- the turns of a search in a list of fewer than 2 ^ k entries: among its chunks and then within one, which has fewer than 2 ^ 9
+abbrev pub turns_in : ℕ → ℕ
+turns_in k = min (2 * k) (k + 9)
 
--- the rows of a run
-abbrev pub run_of : List Row → ℕ
-run_of rows = min longest_run (length rows)
+-- and of one in each of two lists that have together fewer than 2 ^ k: one of them has fewer than half as many
+abbrev pub turns_in_both : ℕ → ℕ
+turns_in_both k = turns_in k + turns_in (k - 1)
 
--- on each level a pair and the node beside it, and the rows of a run
+-- a search of a list of so many entries, and of both lists of a piece that has so many, after so many visits more
+abbrev pub SearchesList : ℕ → ℕ → ℕ → Type 0
+SearchesList entries before after = (k : ℕ) → entries < 2 ^ k → VisitsUpTo (turns_in k) before after
+
+abbrev pub SearchesPiece : ℕ → ℕ → ℕ → ℕ → Type 0
+SearchesPiece more entries before after = (k : ℕ) → entries < 2 ^ k → VisitsUpTo (more + turns_in_both k) before after
+
+-- a node so many levels below one of so many rows has at most so many: a side has at most 3 quarters of them
+abbrev pub rows_down : ℕ → ℕ → ℕ
+rows_down zero rows = rows
+rows_down (suc levels) rows = rows_down levels (3 * rows / 4)
+
+-- a walk from a node of so many rows at most, down so many levels: on each a pair, and the node beside the path with its lists. That node has
+-- what the path has not: where it has more than this, the path has gone down two levels
+abbrev pub walk_of : ℕ → ℕ → ℕ
+walk_of zero rows = 3
+walk_of (suc levels) rows = 2 + turns_in_both (digits (rows - 1 - rows_down 2 rows)) + walk_of levels (3 * rows / 4)
+
 abbrev pub WalksWithin : List Row → ℕ → ℕ → Type 0
-WalksWithin rows before after = (levels k : ℕ) → IsWithinLevels (weight rows) levels → length rows < 2 ^ k
-    → VisitsUpTo ((levels + 1) * (4 * k + 2) + run_of rows) before after
+WalksWithin rows before after = (levels most : ℕ) → length rows ≤ most → rows_down levels most ≤ 1 → VisitsUpTo (walk_of levels most) before after
 
 -- a pair on each level, and the node beside it
 abbrev pub StepsWithin : List Row → ℕ → ℕ → Type 0
 StepsWithin rows before after = (levels : ℕ) → IsWithinLevels (weight rows) levels → VisitsUpTo ((levels + 1) * 2) before after
 
--- a walk for each of the 64 digits of a key and one more, and one of the keys on the path
+-- an entry is read and a path is walked, once for each digit
 abbrev pub SeeksWithin : List Row → ℕ → ℕ → Type 0
-SeeksWithin rows before after = (levels k : ℕ) → IsWithinLevels (weight rows) levels → length rows < 2 ^ k
-    → VisitsUpTo ((levels + 1) * (65 * (4 * k + 2) + 2) + 65 * run_of rows) before after
+SeeksWithin rows before after = (levels most turns : ℕ) → length rows ≤ most → rows_down levels most ≤ 1 → most + 1 < 2 ^ turns
+    → VisitsUpTo (turns * (12 * digits (length rows + 1) + walk_of levels most)) before after
+
+-- a question about the past of a queue of so many rows, and one about its size, which is one walk: in digits of one more
+abbrev pub AskedWithin : ℕ → ℕ → ℕ → Type 0
+AskedWithin rows before after = VisitsUpTo (4 * (digits (rows + 1) + 4) * digits (rows + 1) * digits (rows + 1)) before after
+
+abbrev pub SizedWithin : ℕ → ℕ → ℕ → Type 0
+SizedWithin rows before after = VisitsUpTo (4 * (digits (rows + 1) + 1) * digits (rows + 1)) before after

@@ -2,12 +2,15 @@
 
 ghost use Rattle.std.specs.Prelude.{◌≡◌, ◌^◌, ◌<◌, ◌≤◌, length, take, IfOk};
 ghost use Rattle.retro_base.specs.declared.question.Item.TheVariants.{Single};
+ghost use Rattle.retro_base.specs.declared.question.Question.TheVariants.{Size};
 ghost use Rattle.retro_base.specs.Answers.{answer_of, content, number_of};
 ghost use Rattle.retro_base.specs.State.{entries};
-ghost use Rattle.pq_fusion.specs.Searches.{SeeksWithin};
+ghost use Rattle.bridge_pq.specs.Bridged.{AreAdded};
+ghost use Rattle.pq_fusion.specs.Searches.{SeeksWithin, WalksWithin};
 ghost use Rattle.pq_fusion.specs.EntryCounts.{left_by};
 
 use crate::subtree::Subtree;
+use bridge_pq::AddedEntries;
 use retro_base::{Answer, Entry, Item, Listing, NoMemory, Question, Steps};
 use std::alloc::Global;
 use std::sync::ledger::Ledger;
@@ -16,20 +19,23 @@ impl Subtree {
     /// The answer of the entries that the first rows leave.
     pub(crate) fn answer<L: Ledger>(
         &self,
+        added: &AddedEntries,
         to: u32,
         question: Question,
         steps: &mut Steps<L>,
     ) -> Answer
-        requires { to ≤ length self.now.rows }
+        requires within { to ≤ length self.now.rows }
+        requires added { AreAdded self.now.rows added.now }
         ensures answer { result ≡ answer_of (entries (left_by (take to self.now.rows))) question }
         ensures visits { SeeksWithin self.now.rows steps.old steps.new }
+        ensures size_visits { question ≡ Size → WalksWithin self.now.rows steps.old steps.new }
     {
         match question {
             Question::Size => Answer::Number {
                 value: i128::from(self.left_len(to, steps)),
             },
-            Question::Min => key_answer(self.key_at(to, 0, steps)),
-            Question::Nth { index } => key_answer(self.key_at(to, index, steps)),
+            Question::Min => key_answer(self.key_at(added, to, 0, steps)),
+            Question::Nth { index } => key_answer(self.key_at(added, to, index, steps)),
             _ => Answer::Nothing,
         }
     }

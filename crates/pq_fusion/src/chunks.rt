@@ -6,7 +6,7 @@ ghost use Rattle.retro_base.specs.EntriesInOrder.{AreInOrder};
 ghost use Rattle.retro_base.specs.Limits.{most_rows};
 ghost use Rattle.pq_fusion.specs.Chunks.{AreChunks, BeginBefore, HoldsRank, entries_of, starts_of};
 ghost use Rattle.pq_fusion.specs.Exchanges.{IsExchange};
-ghost use Rattle.pq_fusion.specs.Searches.{SearchesWithin};
+ghost use Rattle.pq_fusion.specs.Searches.{SearchesList, SearchesWithin};
 ghost use Rattle.pq_fusion.specs.EntryCounts.{reaching};
 ghost use Rattle.pq_fusion.specs.Windows.{AreLent};
 
@@ -125,13 +125,6 @@ pub(crate) fn entry_at(chunk: &Vec<Entry>, rank: u32) -> Option<Entry>
     chunk.as_slice().get(rank as usize).copied()
 }
 
-/// The greatest entry of a chunk, where there is one.
-pub(crate) fn last_of(chunk: &Vec<Entry>) -> Option<Entry>
-    ensures { result ≡ slice_get chunk.now.items (length chunk.now.items - 1) }
-{
-    chunk.as_slice().last().copied()
-}
-
 /// How many of these chunks begin before this entry, by halves.
 fn begun_before<L: Ledger>(bound: Entry, chunks: &[Vec<Entry>], steps: &mut Steps<L>) -> usize
     requires order { AreInOrder (entries_of chunks.now) }
@@ -161,7 +154,7 @@ pub(crate) fn reaching_in_chunks<L: Ledger>(
 ) -> u32
     ensures count { result ≡ reaching bound list.now }
     ensures few { result ≤ length list.now }
-    ensures visits { SearchesWithin 2 (length list.now) steps.old steps.new }
+    ensures visits { SearchesList (length list.now) steps.old steps.new }
 {
     let begun = begun_before(bound, &list.chunks, steps);
     if begun == 0 {
@@ -208,27 +201,6 @@ impl Chunks {
             chunks: &self.chunks,
             starts: &self.starts,
         }
-    }
-
-    /// The least entry, where there is one.
-    pub(crate) fn first(&self) -> Option<Entry>
-        ensures { result ≡ slice_get self.now 0 }
-    {
-        if self.chunks.as_slice().len() == 0 {
-            return None;
-        }
-        entry_at(&self.chunks[0], 0)
-    }
-
-    /// The greatest entry, where there is one.
-    pub(crate) fn last(&self) -> Option<Entry>
-        ensures { result ≡ slice_get self.now (length self.now - 1) }
-    {
-        let count = self.chunks.as_slice().len();
-        if count == 0 {
-            return None;
-        }
-        last_of(&self.chunks[count - 1])
     }
 
     /// The entry at a rank, where there is one. Its chunk is sought by halves.

@@ -1,13 +1,13 @@
 //! How many entries some rows leave, and how many of these reach a key.
 
-ghost use Rattle.std.specs.Prelude.{◌≡◌, ℕ, ◌+◌, ◌*◌, ◌^◌, ◌<◌, ◌≤◌, [], ◌∷◌, length};
+ghost use Rattle.std.specs.Prelude.{◌≡◌, ◌+◌, ◌≤◌, [], ◌∷◌, length};
 ghost use Rattle.retro_base.specs.declared.kind.Kind.TheVariants.{Pq};
 ghost use Rattle.retro_base.specs.EntriesInOrder.{AreInOrder};
 ghost use Rattle.retro_base.specs.Kind.{kind_of};
 ghost use Rattle.retro_base.specs.Limits.{most_rows};
 ghost use Rattle.retro_base.specs.Timeline.{AreOfKind};
 ghost use Rattle.pq_fusion.specs.Pieces.{PieceParts, fuse};
-ghost use Rattle.pq_fusion.specs.Searches.{SearchesWithin, VisitsUpTo};
+ghost use Rattle.pq_fusion.specs.Searches.{SearchesPiece, SearchesWithin, VisitsUpTo};
 ghost use Rattle.pq_fusion.specs.EntryCounts.{reaching, counts_of, LeadsCounts};
 
 use crate::exchange::place_of;
@@ -33,7 +33,7 @@ impl EntryCounts {
         requires few { self.left + length piece.now.left ≤ most_rows }
         ensures counts { (first : PieceParts) → self ≡ counts_of bound first.left → result ≡ counts_of bound (fuse first piece.now).left }
         ensures few { result.left ≤ self.left + length piece.now.left }
-        ensures visits { (k : ℕ) → length piece.now.left < 2 ^ k → length piece.now.removed < 2 ^ k → VisitsUpTo (4 * k) steps.old steps.new }
+        ensures visits { SearchesPiece 0 (length piece.now.left + length piece.now.removed) steps.old steps.new }
     {
         let (left, removed) = (piece.left(), piece.removed());
         let kept = self.left.saturating_sub(piece.unmet());

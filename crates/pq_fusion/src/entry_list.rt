@@ -6,13 +6,13 @@ ghost use Rattle.retro_base.specs.EntriesInOrder.{AreInOrder};
 ghost use Rattle.retro_base.specs.Limits.{most_rows};
 ghost use Rattle.pq_fusion.specs.Chunks.{entries_of};
 ghost use Rattle.pq_fusion.specs.Exchanges.{IsExchange};
-ghost use Rattle.pq_fusion.specs.Searches.{SearchesWithin};
+ghost use Rattle.pq_fusion.specs.Searches.{SearchesList, SearchesWithin};
 ghost use Rattle.pq_fusion.specs.EntryCounts.{reaching};
 ghost use Rattle.pq_fusion.specs.Windows.{AreLent};
 
 use crate::Bound;
 use crate::chunk_edits::FULL;
-use crate::chunks::{Chunks, RoomyChunks, entry_at, last_of, reaching_in_chunks};
+use crate::chunks::{Chunks, RoomyChunks, entry_at, reaching_in_chunks};
 use crate::entry_counts::reaching;
 use crate::exchange::{exchange, make_room};
 use crate::window::Lent;
@@ -134,31 +134,11 @@ impl EntryList {
         }
     }
 
-    /// The least entry, where there is one.
-    pub(crate) fn first(&self) -> Option<Entry>
-        ensures { result ≡ slice_get self.now 0 }
-    {
-        match &self.body {
-            Body::Whole(entries) => entry_at(entries, 0),
-            Body::Parted(chunks) => chunks.first(),
-        }
-    }
-
-    /// The greatest entry, where there is one.
-    pub(crate) fn last(&self) -> Option<Entry>
-        ensures { result ≡ slice_get self.now (length self.now - 1) }
-    {
-        match &self.body {
-            Body::Whole(entries) => last_of(entries),
-            Body::Parted(chunks) => chunks.last(),
-        }
-    }
-
     /// How many entries do not come before this one, by halves.
     pub(crate) fn reaching<L: Ledger>(&self, bound: Entry, steps: &mut Steps<L>) -> u32
         ensures count { result ≡ reaching bound self.now }
         ensures few { result ≤ length self.now }
-        ensures visits { SearchesWithin 2 (length self.now) steps.old steps.new }
+        ensures visits { SearchesList (length self.now) steps.old steps.new }
     {
         match &self.body {
             Body::Whole(entries) => reaching(bound, entries.as_slice(), steps),

@@ -3,6 +3,7 @@
 ghost use Rattle.std.specs.Prelude.{◌≡◌, ℕ, ◌+◌, ◌*◌, ◌^◌, ◌<◌, ◌≤◌, [], length, slice_get, true, Some, IfOk, OnOk, OnErr};
 ghost use Rattle.std.specs.List.{insert, remove, slice_range};
 ghost use Rattle.retro_base.specs.declared.kind.Kind.TheVariants.{Pq};
+ghost use Rattle.retro_base.specs.declared.question.Question.TheVariants.{Size};
 ghost use Rattle.retro_base.specs.Answers.{answer_of, content};
 ghost use Rattle.retro_base.specs.BridgeTable.{added};
 ghost use Rattle.retro_base.specs.Changes.{IsChange};
@@ -15,7 +16,7 @@ ghost use Rattle.retro_base.specs.State.{entries};
 ghost use Rattle.retro_base.specs.Timeline.{IsReplayable};
 ghost use Rattle.retro_base.specs.Visits.{OpensCounter};
 ghost use Rattle.pq_fusion.specs.Pieces.{tolerant};
-ghost use Rattle.pq_fusion.specs.Searches.{EditedWithin, VisitsUpTo};
+ghost use Rattle.pq_fusion.specs.Searches.{AskedWithin, EditedWithin, SizedWithin};
 ghost use Rattle.pq_fusion.specs.Wear.{unworn};
 ghost use Rattle.pq_fusion.specs.WearLevels.{AnewOnLevels, AnewWithin};
 
@@ -83,8 +84,9 @@ impl FusedQueue {
         self.rows.stored()
     }
 
-    /// The answer to a question about the state at a place, after so many rows. No piece is made, so it takes no memory. It visits at most 25
-    /// nodes, rows and entries for each of the 64 digits of a key and each pair of digits of one more than the length.
+    /// The answer to a question about the state at a place, after so many rows. No piece is made, so it takes no memory. With d digits of one
+    /// more than the length it visits at most 4 nodes, rows and entries for each of d and 4 more, and each pair of digits; where the size is
+    /// asked, 4 for each of d and 1 more, and each digit.
     pub fn ask_past<L: Ledger>(
         &self,
         place: u32,
@@ -94,10 +96,12 @@ impl FusedQueue {
         requires within { place ≤ length self.now.rows }
         requires suited { suits question Pq ≡ true }
         ensures answer { result ≡ answer_of (state_at Pq self.now.rows place) question }
-        ensures visits { VisitsUpTo (25 * 64 * digits (length self.now.rows + 1) * digits (length self.now.rows + 1)) steps.old steps.new }
+        ensures visits { AskedWithin (length self.now.rows) steps.old steps.new }
+        ensures size_visits { question ≡ Size → SizedWithin (length self.now.rows) steps.old steps.new }
     {
         let _replayable = self.queue.kind();
-        self.rows.answer(place, question, steps)
+        self.rows
+            .answer(&self.queue.added(), place, question, steps)
     }
 
     /// The answer to a question about the state at a place, for a caller that counts nothing.

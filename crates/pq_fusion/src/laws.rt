@@ -1,6 +1,7 @@
-//! Laws of pieces.
+//! Laws of pieces, and of the tree above them.
 ghost use Rattle.pq_fusion.specs.Edits.{EditsPassOne, EarlierPasses, LaterPasses};
 ghost use Rattle.pq_fusion.specs.PieceLaws.{RowsRise, FusedRise, FuseIsAssociative, NothingIsUnit, RowsFuse, MetIsValid, LeftIsPresent};
+ghost use Rattle.pq_fusion.specs.WearLevels.{FewMadeAnew};
 
 /// A law: the lists of a piece rise, be it that of rows or one that two pieces fuse to.
 pub fn pieces_rise()
@@ -33,4 +34,10 @@ pub fn edits_pass_one()
     ensures rows { EditsPassOne }
     ensures earlier { EarlierPasses }
     ensures later { LaterPasses }
+{}
+
+/// A law: over any history of edits that find their memory, from the empty queue on, the rows that come into a run that is made anew
+/// are at most 65 for each edit and 6 for each digit of one more than there are rows before it, added up.
+pub fn making_anew_is_rare()
+    ensures { FewMadeAnew }
 {}

@@ -11,8 +11,9 @@
 //! `FusedQueue` is a priority queue of `retro_base`'s trait `Retro`. It keeps its rows in runs of up to 64, and pairs of these and of pairs
 //! in a balanced tree above. Each run and each pair has the piece of all rows below it, so what the rows before a place come to is a
 //! product of a few pieces and of some rows of one run; what they leave is the state there. A question about the past makes no piece: how
-//! many entries are left, and how many of them have a key that is no less than a given one, follows from piece to piece by a search of
-//! each list by halves, and from row to row in one run, and the key at an index is the greatest one that enough entries reach.
+//! many entries are left, and how many of them do not come before a given one, follows from piece to piece by a search of each list by
+//! halves, and from row to row in one run. The entry at an index is the last one before which no more are left than the index says, of all
+//! that rows add; these the `BridgeQueue` beside has in order, so it is sought by its rank among them, whatever the keys are.
 //!
 //! Verdicts, changes and the present are those of a `BridgeQueue` beside the tree. An edit goes down one path of the tree to a run, which
 //! is made anew with its piece, and what passes there is found by comparing; on the way up each pair learns what passes in one of its
@@ -26,8 +27,8 @@
 //! than one the sides of each pair differ. The empty queue has none. An edit that the pairs on its path bear adds one for each of them at
 //! most, and a part that is made anew has none left, and had so much that twice of it pays for its rows. So over any history of the calls
 //! `insert_counted` and `remove_counted` that find their memory, the rows that come into a run that is made anew, which these count
-//! (`Anew`), are at most 6 for each digit of m + 1 and 65 for each edit. A body that makes larger parts anew more often, or halves them
-//! unevenly, is not proved.
+//! (`Anew`), are at most 6 for each digit of m + 1 and 65 for each edit, which is a law (`making_anew_is_rare`). A body that makes larger
+//! parts anew more often, or halves them unevenly, is not proved.
 //!
 //! | Call | Cost, with m rows | Memory |
 //! |---|---|---|
@@ -35,7 +36,7 @@
 //! | `Piece::fuse` | a walk of the lists of both | the fused lists |
 //! | `FusedQueue::new`, `kind`, `len` | constant | none |
 //! | `ask_now`, `failure_after_insert`, `failure_after_remove` | those of `BridgeQueue`, log m | none |
-//! | `ask_past`, `answer_at`, `ask` | one walk of the path, log² m, for each binary digit of the difference of the keys on it | none |
+//! | `ask_past`, `answer_at`, `ask` | one entry read and one walk of the path, log² m, for each binary digit of the number of entries | none |
 //! | `all`, `piece` | in proportion to the rows asked about | as many entries |
 //! | `insert`, `remove`, `insert_counted`, `remove_counted` | log² m comparisons; moves in two chunks a list, a count of all; 6 log m + 65 rows anew, each log m, spread over all edits | a run, room in lists |
 //! | `stored` | each run and pair once | none |
@@ -51,7 +52,14 @@
 //! the boundary of what a later part takes of an earlier one. This is a law (`edits_pass_one`) of all rows, places and edits.
 //!
 //! `ask_past` counts its visits, a run or a pair that is opened, each row of a run that is gone through and each turn of a search in a
-//! list, be it among its chunks or within one: at most 25 for each of the 64 digits of a key and each pair of digits of m + 1.
+//! list, be it among its chunks or within one, and each node that the entry of a rank is read from: with d digits of m + 1 at most
+//! 4 d² (d + 4). That is 24,276 at 65,536 rows and 28,512 at 131,072, 0.37 and 0.22 visits for each row; it is less than one past 17,100
+//! rows. A question about the size is one walk, at most 4 d (d + 1): 1,224 and 1,368. In the same design without proofs a question for
+//! the least entry was seen to take some 2,400 visits on the mean and 4,500 at the most at 65,536 rows, 2,900 and 5,400 at 131,072. Each
+//! turn reads an entry, at most 12 d, and walks the path. On each level of it a pair is opened and the node beside it, whose two lists have
+//! together no more entries than it has rows, so one of them has less than half as many; and a chunk has no more than 256, so a search
+//! takes at most the digits of that number and 9. A side has at most 3 quarters of the rows of its pair, and where the path goes on in so
+//! large a side the node beside has the other quarter: so the searches get shorter from level to level.
 //!
 //! `insert_counted` and `remove_counted` count theirs, a run or a pair that is opened and each turn of a search in a list: with m rows, the
 //! edited one among them, at most 60 for each pair of digits of m + 1 in the tree, and 288 for each digit in the `BridgeQueue` beside it.
@@ -61,7 +69,7 @@
 //! entries are summed anew.
 //!
 //! What the layer above may rely on: the clauses of `Piece` and `FusedQueue`, the definitions of specs/Pieces.antt, and the laws of
-//! specs/PieceLaws.antt and specs/Edits.antt, which are the contracts of `laws`.
+//! specs/PieceLaws.antt, specs/Edits.antt and specs/WearLevels.antt, which are the contracts of `laws`.
 //!
 //! - `piece`, `merge`, `of_rows`: a piece, two rising lists together, and the piece of rows one after another. `bound`: an entry, or what
 //!   is less or greater than each.
@@ -71,8 +79,8 @@
 //!   comes into one of these or goes. `node_piece`: a piece in two such lists. `exchange`: one entry of a list in the
 //!   place of another. `window`: where in a list a place may lie, while it is sought. `boundary`: the entry at a rank of two lists
 //!   together. `difference`: what passed, by comparing.
-//! - `entry_counts`, `span`: how many entries are left after a path, how many of them reach a key, and between which keys they lie.
-//!   `select`: the key at an index of what the first rows leave. `answer`: the answers of that. `fused_queue`.
+//! - `entry_counts`: how many entries are left after a path, and how many of them do not come before a given one. `select`: the key at an
+//!   index of what the first rows leave. `answer`: the answers of that. `fused_queue`.
 #![tactic(auto)]
 
 mod anew;
@@ -98,7 +106,6 @@ mod remaining;
 mod root;
 mod select;
 mod sides;
-mod span;
 mod subtree;
 mod window;
 

@@ -28,7 +28,7 @@
 //! | `insert`, `remove`, `prefix`, `kth_marked` of `SignTree` | at most 12 d |
 //! | `first_at_most`, `last_at_most` of `SignTree` | at most 24 d |
 //! | `ask_past` of `RetroLine` | at most 36 d |
-//! | the calls of `Partial` of `RetroLine` that take a counter | at most 144 d |
+//! | the calls of `Partial` of `RetroLine` that take a counter, but `ask_after`, `copy_after` and `list_after` | at most 144 d |
 //!
 //! What the layer above may rely on: the clauses of these types, in the words of lists; specs/Prefixes.antt and
 //! specs/SignPrefixes.antt for the searches; specs/MarkLaws.antt on marks; specs/Growth.antt and the laws beside it on the rows of a line.

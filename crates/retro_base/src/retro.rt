@@ -92,4 +92,15 @@ pub trait Retro {
         ensures kind { kind self.new ≡ kind self.old }
         ensures rows { rows self.new ≡ rows self.old }
         ensures content { IfOk result (λ listing. listing ≡ content (state_at (kind self.old) (rows self.old) place)) };
+
+    /// The whole content of the present. The rows stay, whatever the answer. Whoever has it at hand gives it without a look
+    /// at the past, as `ask_now` does; here it is `all` behind the last row.
+    fn list_now(&mut self) -> Result<Listing, NoMemory>
+        ensures kind { kind self.new ≡ kind self.old }
+        ensures rows { rows self.new ≡ rows self.old }
+        ensures content { IfOk result (λ listing. listing ≡ content (present (kind self.old) (rows self.old))) }
+    {
+        let place = self.len();
+        self.all(place)
+    }
 }

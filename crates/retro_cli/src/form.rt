@@ -11,7 +11,7 @@ use script_grammar::{kind_of_word, read_natural_up_to};
 const MAX_GENERATED: u64 = 1_000_000;
 
 /// What the words of a command line ask for.
-#[derive(Clone, Copy, Debug)]
+#[derive(Clone, Copy)]
 pub(crate) enum Form {
     /// `run`: a script is answered.
     Run,

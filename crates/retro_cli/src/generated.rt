@@ -18,7 +18,7 @@ use std::alloc::Global;
 use workbench::Bench;
 
 /// What the lines of a generated script come to.
-#[derive(Clone, Copy, Debug)]
+#[derive(Clone, Copy)]
 struct Summary {
     lines: u32,
     refused: u32,

@@ -9,7 +9,7 @@ use retro_base::NoMemory;
 use retro_io::{ReadError, WriteFault};
 
 /// Why a run ends before its input does.
-#[derive(Clone, Copy, Debug, PartialEq, Eq)]
+#[derive(Clone, Copy)]
 pub(crate) enum Stop {
     ReadFault,
     WriteFault,

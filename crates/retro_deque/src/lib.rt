@@ -9,7 +9,7 @@
 //!
 //! `RetroDeque` is seen as its rows. It is a `RetroLine` of `prefix_trees` over the rows of a deque: so it implements `Partial`
 //! and `Retro` of `retro_base`. For each binary digit of one more than the number of rows `ask_past` visits at most 36 nodes, and
-//! each call of `Partial` that takes a counter at most 144; only `insert`, `copy` and the listings take memory.
+//! each call of `Partial` that takes a counter at most 144, but for those that answer for a later structure; only `insert`, `copy` and the listings take memory.
 //!
 //! - `RetroDeque`.
 //! - `deque`: the kind, and the type.

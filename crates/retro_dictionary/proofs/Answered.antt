@@ -16,7 +16,7 @@ use Rattle.retro_base.specs.declared.question.Question.TheVariants.{Size, Front,
 use Rattle.retro_base.specs.declared.question.Answer.TheVariants.{Number}
 use Rattle.retro_base.specs.Answers.{answer_of, number_of, pair_of, pairs_between, last_of, sum_of_values}
 use Rattle.retro_base.specs.State.{pairs}
-use Rattle.retro_dictionary.specs.Asked.{least_number, greatest_number, IsNumber, AreOfNumbers, query_of, answer_from}
+use Rattle.retro_dictionary.specs.Asked.{least_number, greatest_number, IsNumber, AreOfNumbers, range_of, answer_from}
 use Rattle.retro_dictionary.specs.PairSearch.{found_in, in_bits}
 use Rattle.retro_base.specs.Limits.{most_rows}
 
@@ -128,7 +128,7 @@ sum-fits ps all few =
     let fits : FitsSigned w128 (sum_of_values ps) = fits_bits (sum_of_values ps) (2 ^ 63 * length ps) (omega arith) (omega (arith, ints, within.0)) (omega (arith, ints, within.1)) in
     int_wrap_fits w128 (sum_of_values ps) fits
 
-pub answer-found : (ps : List (ℤ × ℤ)) (question : Question) → AreOfNumbers ps → length ps ≤ most_rows → answer_of (pairs ps) question ≡ answer_from question (found_in ps (query_of question))
+pub answer-found : (ps : List (ℤ × ℤ)) (question : Question) → AreOfNumbers ps → length ps ≤ most_rows → answer_of (pairs ps) question ≡ answer_from question (found_in ps (range_of question))
 unfolding answer_of
 answer-found ps Size all few = ap (λ qs. Number (pos (length qs))) (sym (all_between ps all))
 answer-found ps (Get key) all few = ap number_of (get-found key ps)

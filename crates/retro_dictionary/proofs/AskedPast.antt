@@ -31,7 +31,7 @@ use Rattle.retro_dictionary.specs.Labelled.{labelled}
 use Rattle.retro_dictionary.specs.Lifetimes.{lifetimes_of}
 use Rattle.retro_dictionary.specs.PairSearch.{pair_before, found_in}
 use Rattle.retro_dictionary.specs.PairSearchLaws.{pair_order}
-use Rattle.retro_dictionary.specs.Asked.{AreOfNumbers, pairs_at, query_of, answer_from, value_at, value_put}
+use Rattle.retro_dictionary.specs.Asked.{AreOfNumbers, pairs_at, range_of, answer_from, value_at, value_put}
 use Rattle.retro_dictionary.proofs.HeldPairs.{held}
 use Rattle.retro_dictionary.proofs.LastPut.{value-last}
 use Rattle.retro_dictionary.proofs.InOrder.{in_order-same}
@@ -137,4 +137,4 @@ holds-content rows labels index lifetimes place kept some within = content_at ro
 pub answers-found : SearchAnswers
 answers-found rows labels index lifetimes place question kept within =
     let at = there rows labels index lifetimes place kept within in
-    ap (λ state. answer_of state question) at.state ∙ answer-found at.left question at.of_numbers at.few ∙ ap (λ ps. answer_from question (found_in ps (query_of question))) (sym at.are)
+    ap (λ state. answer_of state question) at.state ∙ answer-found at.left question at.of_numbers at.few ∙ ap (λ ps. answer_from question (found_in ps (range_of question))) (sym at.are)

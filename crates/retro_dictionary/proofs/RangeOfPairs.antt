@@ -1,29 +1,27 @@
 -- The pairs whose keys lie in a range stand side by side.
-use Rattle.std.proofs.Common.{◌≡◌, ℕ, zero, suc, ◌+◌, ◌-◌, ◌<◌, ◌≤◌, ◌≤ℤ◌, ℤ, Bool, true, false, not, ◌&&◌, cond, Some, None, List, [], ◌∷◌, ◌++◌, length, take, drop, slice_get, refl, sym, ap, ◌∙◌, arith, subst, inl, inr}
+use Rattle.std.proofs.Common.{◌≡◌, ℕ, zero, suc, ◌+◌, ◌-◌, ◌<◌, ◌≤◌, ◌≤ℤ◌, ℤ, Bool, true, false, not, ◌&&◌, cond, Some, List, [], ◌∷◌, ◌++◌, length, take, drop, slice_get, refl, sym, ap, ◌∙◌, arith, subst, inl, inr}
 use Rattle.std.specs.Prelude.{int_le}
 use Rattle.std.specs.List.{AllByRecursion, filter, slice_range}
 use Rattle.std.proofs.lemmas.Bool.{cases_lt}
 use Rattle.std.proofs.lemmas.Int.{ints}
-use Rattle.std.proofs.lemmas.List.{take-take, take-append-drop, drop-take, length-take-le}
+use Rattle.std.proofs.lemmas.List.{take-take, take-append-drop, drop-take}
 use Rattle.std.proofs.lemmas.List.Elements.{filter-append}
 use Rattle.std.proofs.lemmas.Option.{slice_get_within}
 use Rattle.lifetime_segments.specs.Lawful.{AnswerTogether, IsAnswer, most_items}
 use Rattle.lifetime_segments.specs.Ordered.{AreInOrder}
-use Rattle.retro_base.specs.Answers.{last_of, pairs_between}
+use Rattle.retro_base.specs.Answers.{pairs_between}
 use Rattle.retro_base.specs.OrderLaws.{all_weaker, all_at}
 use Rattle.weighted_tree.specs.Partitioned.{IsPartitioned}
 use Rattle.retro_dictionary.specs.declared.pairs.Found.{Found}
-use Rattle.retro_dictionary.specs.declared.pairs.PairQuery.{PairQuery}
-use Rattle.retro_dictionary.specs.declared.pairs.Sought.{Sought}
-use Rattle.retro_dictionary.specs.declared.pairs.Sought.TheVariants.{All, Least, Greatest}
+use Rattle.retro_dictionary.specs.declared.pairs.KeyRange.{KeyRange}
 use Rattle.retro_dictionary.specs.declared.search.Bound.{Bound}
 use Rattle.retro_dictionary.specs.declared.search.Bound.TheVariants.{Below, UpTo}
-use Rattle.retro_dictionary.specs.PairSearch.{pair_before, found_in, found_of, found_together, greater, lesser, none_found, only}
+use Rattle.retro_dictionary.specs.PairSearch.{pair_before, found_in, found_together, none_found}
 use Rattle.retro_dictionary.specs.PairSearchLaws.{pair_laws}
 use Rattle.retro_dictionary.specs.Asked.{IsNumber}
 use Rattle.retro_dictionary.specs.Bounds.{reaches, StandUpTo, FailsAt, HasNumber}
 use Rattle.retro_dictionary.proofs.MeasuredPairs.{all_taken}
-use Rattle.retro_base.specs.Facts.{get_drop, get_take}
+use Rattle.retro_base.specs.Facts.{get_drop}
 use Rattle.retro_dictionary.proofs.Answered.{filter-le}
 
 module _ {A : Type 0} (test : A → Bool) where
@@ -154,20 +152,6 @@ module _ (items : List (ℤ × ℤ)) (low high : ℤ) (from : ℕ) (begins : Sta
       ap (filter inside) (sym (take-append-drop from items)) ∙ filter-append inside (take from items) (drop from items)
       ∙ ap (λ xs. xs ++ filter inside (drop from items)) (none_pass inside (take from items) before) ∙ none_pass inside (drop from items) after
 
-  -- the first one from the lower end on is the least inside, where it is not beyond the upper end
-  pub first-inside : (pair : ℤ × ℤ) → slice_get items from ≡ Some pair → reaches (UpTo high) pair ≡ true → slice_get (pairs_between low high items) 0 ≡ Some pair
-  first-inside pair there up =
-      ap (λ xs. slice_get xs 0) (ap (filter inside) (sym (take-append-drop from items)) ∙ filter-append inside (take from items) (drop from items)
-      ∙ ap (λ xs. xs ++ filter inside (drop from items)) (none_pass inside (take from items)
-      (all_weaker (λ (p : ℤ × ℤ). from_low p ≡ false) (λ (p : ℤ × ℤ). inside p ≡ false) (take from items) (λ p below. ap (λ b. b && int_le p.0 high) below) all_below)))
-      ∙ head (drop from items) (get_drop items from 0 ∙ ap (slice_get items) (let here : from + 0 ≡ from = omega arith in here) ∙ there) all_from where
-        head : (xs : List (ℤ × ℤ)) → slice_get xs 0 ≡ Some pair → AllByRecursion (λ (p : ℤ × ℤ). from_low p ≡ true) xs → slice_get (filter inside xs) 0 ≡ Some pair
-        head [] is all = absurd (cc)
-        head (x ∷ xs) is all =
-            let same : x ≡ pair = cc in
-            let in_it : inside x ≡ true = ap (λ b. b && int_le x.0 high) all.0 ∙ ap (reaches (UpTo high)) same ∙ up in
-            ap (λ b. slice_get (cond b (x ∷ filter inside xs) (filter inside xs)) 0) in_it ∙ is
-
   module _ (to : ℕ) (ends : StandUpTo (UpTo high) items to) (order : from ≤ to) where
     parts : take to items ≡ take from items ++ take (to - from) (drop from items)
     parts =
@@ -179,57 +163,6 @@ module _ (items : List (ℤ × ℤ)) (low high : ℤ) (from : ℕ) (begins : Sta
         sym (filter_both from_low (reaches (UpTo high)) items ∙ ap (filter from_low) (sym ends.front ∙ parts) ∙ filter-append from_low (take from items) (take (to - from) (drop from items))
         ∙ ap (λ xs. xs ++ filter from_low (take (to - from) (drop from items))) (none_pass from_low (take from items) all_below)
         ∙ all_pass from_low (take (to - from) (drop from items)) (all_taken (λ (pair : ℤ × ℤ). from_low pair ≡ true) (drop from items) (to - from) all_from))
-
--- of elements of which the last passes a test, the last that passes is that one
-last-passes : (test : ℤ × ℤ → Bool) (xs : List (ℤ × ℤ)) (place : ℕ) (x : ℤ × ℤ) → slice_get xs place ≡ Some x → length xs ≡ suc place → test x ≡ true → last_of (filter test xs) ≡ Some x
-last-passes test [] place x there long passing = absurd (cc)
-last-passes test (y ∷ []) zero x there long passing = let same : y ≡ x = cc in ap (λ b. last_of (cond b (y ∷ []) [])) (ap test same ∙ passing) ∙ there
-last-passes test (y ∷ z ∷ zs) zero x there long passing = absurd (omega (arith, long))
-last-passes test (y ∷ ys) (suc place) x there long passing =
-    let rest : last_of (filter test ys) ≡ Some x = last-passes test ys place x there (omega (arith, long)) passing in
-    elim (test y) as (λ b. last_of (cond b (y ∷ filter test ys) (filter test ys)) ≡ Some x) [ true ↦ after_one (filter test ys) rest | false ↦ rest ] where
-      after_one : (zs : List (ℤ × ℤ)) → last_of zs ≡ Some x → last_of (y ∷ zs) ≡ Some x
-      after_one [] is = absurd (cc)
-      after_one (z ∷ zs) is = ap (slice_get (y ∷ z ∷ zs)) (let less : suc (suc (length zs)) - 1 ≡ suc (suc (length zs) - 1) = omega arith in less) ∙ is
-
--- up to an element that passes, where none passes after one that fails, all do
-pass_up_to : (test : ℤ × ℤ → Bool) (xs : List (ℤ × ℤ)) (place : ℕ) (x : ℤ × ℤ) → IsPartitioned test xs → slice_get xs place ≡ Some x → test x ≡ true → AllByRecursion (λ y. test y ≡ true) (take (suc place) xs)
-pass_up_to test [] place x parted there passing = tt
-pass_up_to test (y ∷ ys) zero x parted there passing = let same : y ≡ x = cc in (ap test same ∙ passing, tt)
-pass_up_to test (y ∷ ys) (suc place) x parted there passing =
-    let first : test y ≡ true = elim (test y) as (λ b. test y ≡ b → b ≡ true) [
-      | true ↦ λ _. refl
-      | false ↦ λ failing. sym (all_at (λ z. test z ≡ false) ys place x (parted.0 failing) there) ∙ passing
-    ] refl in
-    (first, pass_up_to test ys place x parted.1 there passing)
-
--- the last pair up to the upper end of a range is the greatest inside, where it is not below the lower end, and else there is none
-module _ (items : List (ℤ × ℤ)) (low high : ℤ) (place : ℕ) (ends : StandUpTo (UpTo high) items (suc place)) where
-  abbrev not_under : ℤ × ℤ → Bool
-  not_under pair = int_le low pair.0
-
-  those : pairs_between low high items ≡ filter not_under (take (suc place) items)
-  those = filter_both not_under (reaches (UpTo high)) items ∙ ap (filter not_under) (sym ends.front)
-
-  pub last-inside : (pair : ℤ × ℤ) → slice_get items place ≡ Some pair → reaches (Below low) pair ≡ false → last_of (pairs_between low high items) ≡ Some pair
-  last-inside pair there above =
-      let within = slice_get_within items place pair there in
-      ap last_of those
-      ∙ last-passes not_under (take (suc place) items) place pair (get_take items (suc place) place (omega arith) ∙ there) (length-take-le (suc place) items (omega (arith, within))) (up low pair above) where
-        up : (low : ℤ) (pair : ℤ × ℤ) → reaches (Below low) pair ≡ false → int_le low pair.0 ≡ true
-        up low pair above = grind (arith, ints)
-
-  pub none-up-to : (pair : ℤ × ℤ) → AreInOrder pair_before items → slice_get items place ≡ Some pair → reaches (Below low) pair ≡ true → last_of (pairs_between low high items) ≡ None
-  none-up-to pair ordered there below =
-      ap last_of (those ∙ none_pass not_under (take (suc place) items)
-      (all_weaker (λ p. reaches (Below low) p ≡ true) (λ p. not_under p ≡ false) (take (suc place) items) (under low)
-      (pass_up_to (reaches (Below low)) items place pair (reaches-falls (Below low) items ordered) there below))) where
-        under : (low : ℤ) (pair : ℤ × ℤ) → reaches (Below low) pair ≡ true → int_le low pair.0 ≡ false
-        under low pair below = grind (arith, ints)
-
--- where none is up to the upper end, none is inside
-pub none-reached : (items : List (ℤ × ℤ)) (low high : ℤ) → StandUpTo (UpTo high) items 0 → last_of (pairs_between low high items) ≡ None
-none-reached items low high ends = ap last_of (filter_both (λ pair. int_le low pair.0) (reaches (UpTo high)) items ∙ ap (filter (λ pair. int_le low pair.0)) (sym ends.front))
 
 -- a key that is not below another, and one that is not above it
 pub not_below : (key : ℤ) (pair : ℤ × ℤ) → key ≤ℤ pair.0 → reaches (Below key) pair ≡ false
@@ -247,11 +180,6 @@ number_at ps place pair there is other found =
       some_same p q equal = cc
 
 -- no more pairs lie in a range than there are
-only-count : (sought : Sought) (found : Found) → (only sought found).count ≤ found.count
-only-count All found = omega arith
-only-count Least found = omega arith
-only-count Greatest found = omega arith
-
 pub counts-fit : (first second : Found) → AnswerTogether pair_before found_in first second → first.count + second.count ≤ most_items
 counts-fit first second both =
     omega (
@@ -259,36 +187,14 @@ counts-fit first second both =
       ap (λ (f : Found). f.count) both.first_is,
       ap (λ (f : Found). f.count) both.second_is,
       both.lawful.few,
-      only-count both.query.sought (found_of (pairs_between both.query.range.low both.query.range.high both.first_items)),
-      only-count both.query.sought (found_of (pairs_between both.query.range.low both.query.range.high both.second_items)),
-      filter-le (λ (pair : ℤ × ℤ). int_le both.query.range.low pair.0 && int_le pair.0 both.query.range.high) both.first_items,
-      filter-le (λ (pair : ℤ × ℤ). int_le both.query.range.low pair.0 && int_le pair.0 both.query.range.high) both.second_items,
+      filter-le (λ (pair : ℤ × ℤ). int_le both.query.low pair.0 && int_le pair.0 both.query.high) both.first_items,
+      filter-le (λ (pair : ℤ × ℤ). int_le both.query.low pair.0 && int_le pair.0 both.query.high) both.second_items,
     )
 
--- an answer with nothing more is that answer
-pub no_more : (part : Found) (query : PairQuery) → IsAnswer pair_before found_in query part → found_together part none_found ≡ part
-no_more part query is =
-    ap (λ found. found_together found none_found) is.answers
-    ∙ pair_laws.right_unit is.items query (record { ordered = is.ordered; few = omega (arith, is.room) })
-    ∙ sym is.answers
-
--- where one end alone is looked for, one more pair changes that end alone
-pub with-least : (part : Found) (pair : ℤ × ℤ) (query : PairQuery) → IsAnswer pair_before found_in query part → query.sought ≡ Least
-    → found_of (pairs_between query.range.low query.range.high (pair ∷ [])) ≡ found_of (pair ∷ [])
-    → (record part { least = lesser part.least (Some pair) }) ≡ found_together part (found_in (pair ∷ []) query)
-with-least part pair query is sought one =
-    let ending : Found → Found = λ found. record found { least = lesser part.least (Some pair) } in
-    ap ending (sym (no_more part query is))
-    ∙ ap (found_together part) (sym (ap (λ s. only s (found_of (pairs_between query.range.low query.range.high (pair ∷ [])))) sought ∙ ap (only Least) one))
-
-pub with-greatest : (part : Found) (pair : ℤ × ℤ) (query : PairQuery) → IsAnswer pair_before found_in query part → query.sought ≡ Greatest
-    → found_of (pairs_between query.range.low query.range.high (pair ∷ [])) ≡ found_of (pair ∷ [])
-    → (record part { greatest = greater part.greatest (Some pair) }) ≡ found_together part (found_in (pair ∷ []) query)
-with-greatest part pair query is sought one =
-    let ending : Found → Found = λ found. record found { greatest = greater part.greatest (Some pair) } in
-    ap ending (sym (no_more part query is))
-    ∙ ap (found_together part) (sym (ap (λ s. only s (found_of (pairs_between query.range.low query.range.high (pair ∷ [])))) sought ∙ ap (only Greatest) one))
-
 -- a pair in which nothing is found adds nothing to an answer
-pub nothing_more : (part : Found) (pair : ℤ × ℤ) (query : PairQuery) → IsAnswer pair_before found_in query part → none_found ≡ found_in (pair ∷ []) query → part ≡ found_together part (found_in (pair ∷ []) query)
-nothing_more part pair query is nothing = sym (no_more part query is) ∙ ap (found_together part) nothing
+pub nothing_more : (part : Found) (pair : ℤ × ℤ) (range : KeyRange) → IsAnswer pair_before found_in range part → none_found ≡ found_in (pair ∷ []) range → part ≡ found_together part (found_in (pair ∷ []) range)
+nothing_more part pair range is nothing =
+    is.answers
+    ∙ sym (pair_laws.right_unit is.items range (record { ordered = is.ordered; few = omega (arith, is.room) }))
+    ∙ ap (λ found. found_together found none_found) (sym is.answers)
+    ∙ ap (found_together part) nothing

@@ -1,4 +1,4 @@
--- What a question of a dictionary looks for and among which keys, what is answered of what is found of the pairs there, and what a key has.
+-- Which pairs answer a question of a dictionary, what is answered of what is found of them, and what a key has.
 use Rattle.std.specs.Prelude.{ℕ, zero, suc, ℤ, pos, neg_ℤ, ◌-ℤ◌, ◌^◌, ◌≤ℤ◌, Option, None, List, []}
 use Rattle.std.specs.List.{AllByRecursion}
 use Rattle.std.specs.Option.{option_map, option_and_then}
@@ -17,9 +17,6 @@ use Rattle.order_labels.specs.Labels.{label_before}
 use Rattle.retro_dictionary.specs.Lifetimes.{put_by}
 use Rattle.retro_dictionary.specs.declared.pairs.Found.{Found}
 use Rattle.retro_dictionary.specs.declared.pairs.KeyRange.{KeyRange}
-use Rattle.retro_dictionary.specs.declared.pairs.PairQuery.{PairQuery}
-use Rattle.retro_dictionary.specs.declared.pairs.Sought.{Sought}
-use Rattle.retro_dictionary.specs.declared.pairs.Sought.TheVariants.{All, Least, Greatest}
 use Rattle.retro_dictionary.specs.PairSearch.{pair_before, found_in}
 
 -- numbers of 64 bits
@@ -40,18 +37,14 @@ AreOfNumbers ps = AllByRecursion (λ (pair : ℤ × ℤ). IsNumber pair.0 × IsN
 abbrev pub keys_from : ℤ → ℤ → KeyRange
 keys_from low high = record { low = low; high = high }
 
--- this is looked for among them
-abbrev pub look_for : Sought → KeyRange → PairQuery
-look_for sought range = record { range = range; sought = sought }
-
--- what a question looks for, and among which keys
-abbrev pub query_of : Question → PairQuery
-query_of (Get key) = look_for Least (keys_from key key)
-query_of (Succ key) = look_for Least (keys_from key greatest_number)
-query_of (Pred key) = look_for Greatest (keys_from least_number key)
-query_of (Count low high) = look_for All (keys_from low high)
-query_of (Sum low high) = look_for All (keys_from low high)
-query_of question = look_for All (keys_from least_number greatest_number)
+-- the keys that a question asks of
+abbrev pub range_of : Question → KeyRange
+range_of (Get key) = keys_from key key
+range_of (Succ key) = keys_from key greatest_number
+range_of (Pred key) = keys_from least_number key
+range_of (Count low high) = keys_from low high
+range_of (Sum low high) = keys_from low high
+range_of question = keys_from least_number greatest_number
 
 -- the answer, by what is found of the pairs with these keys
 abbrev pub answer_from : Question → Found → Answer
@@ -69,8 +62,8 @@ pairs_at labels lifetimes zero = []
 pairs_at labels lifetimes (suc place) = in_order pair_before (items_at (label_before 0 labels (suc place)) lifetimes)
 
 -- what is found of them
-abbrev pub found_at : List ℕ → List (Lifetime (ℤ × ℤ)) → ℕ → PairQuery → Found
-found_at labels lifetimes place query = found_in (pairs_at labels lifetimes place) query
+abbrev pub found_at : List ℕ → List (Lifetime (ℤ × ℤ)) → ℕ → KeyRange → Found
+found_at labels lifetimes place range = found_in (pairs_at labels lifetimes place) range
 
 -- the value that an operation puts, where it puts one
 abbrev pub value_put : Op → Option ℤ

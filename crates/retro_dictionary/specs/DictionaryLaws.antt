@@ -13,7 +13,7 @@ use Rattle.lifetime_segments.specs.declared.lifetime.Lifetime.{Lifetime}
 use Rattle.lifetime_segments.specs.Lifetimes.{items_at}
 use Rattle.lifetime_segments.specs.Ordered.{in_order}
 use Rattle.order_labels.specs.Labels.{label_before}
-use Rattle.retro_dictionary.specs.Asked.{query_of, answer_from, found_at}
+use Rattle.retro_dictionary.specs.Asked.{range_of, answer_from, found_at}
 use Rattle.retro_dictionary.specs.Changes.{placed_by, up_to_label}
 use Rattle.retro_dictionary.specs.Edited.{IsBetween, CanInsert, CanRemove, CanPut, CanCut, left_of, next_of, cut_by, joined_by}
 use Rattle.retro_dictionary.specs.LabelledRows.{AreLabelled, ordered}
@@ -30,7 +30,7 @@ LifetimesHoldContent =
 abbrev pub SearchAnswers : Type 0
 SearchAnswers =
     (rows : List Row) (labels : List ℕ) (index : List KeyRow) (lifetimes : List (Lifetime (ℤ × ℤ))) (place : ℕ) (question : Question) → AreLabelled rows labels index lifetimes → place ≤ length rows
-    → answer_of (state_at Dict rows place) question ≡ answer_from question (found_at labels lifetimes place (query_of question))
+    → answer_of (state_at Dict rows place) question ≡ answer_from question (found_at labels lifetimes place (range_of question))
 
 -- the lifetimes with one more row and without it: the row ends that of the pair that the last row before it on its key put, and begins its own; all others are the same
 pub record EndsOne (front : List KeyRow) (row : KeyRow) (after : List KeyRow) : Type 0 where

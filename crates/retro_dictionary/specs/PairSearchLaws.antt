@@ -2,10 +2,8 @@
 use Rattle.std.proofs.Common.{◌≡◌, ℕ, ◌+◌, ◌-◌, suc, ℤ, pos, ◌+ℤ◌, ◌<ℤ◌, ◌⊎◌, Bool, true, false, ◌&&◌, ◌||◌, cond, Option, Some, None, List, [], ◌∷◌, ◌++◌, length, refl, sym, ap, ◌∙◌, arith, inl, inr}
 use Rattle.std.specs.Prelude.{int_le, int_lt, slice_get}
 use Rattle.std.specs.List.{AllByRecursion, filter, fold}
-use Rattle.std.specs.Option.{is_some}
 use Rattle.std.specs.Ordering.{int_eq}
 use Rattle.std.specs.Int.{w128}
-use Rattle.std.proofs.lemmas.List.Elements.{filter-append}
 use Rattle.std.proofs.lemmas.Int.{ints, int_wrap_fits, SFits-int_wrap, int_wrap-add_left, int_wrap-add_right}
 use Rattle.retro_base.specs.Answers.{pairs_between, sum_of_values, last_of}
 use Rattle.lifetime_segments.specs.Lawful.{AreLawful, RangeLaws, SearchLaws}
@@ -13,10 +11,7 @@ use Rattle.lifetime_segments.specs.Ordered.{IsOrder, AreInOrder, put_in, in_orde
 use Rattle.lifetime_segments.specs.OrderedLaws.{in_order-ordered, between}
 use Rattle.retro_dictionary.specs.declared.pairs.Found.{Found}
 use Rattle.retro_dictionary.specs.declared.pairs.KeyRange.{KeyRange}
-use Rattle.retro_dictionary.specs.declared.pairs.PairQuery.{PairQuery}
-use Rattle.retro_dictionary.specs.declared.pairs.Sought.{Sought}
-use Rattle.retro_dictionary.specs.declared.pairs.Sought.TheVariants.{All, Least, Greatest}
-use Rattle.retro_dictionary.specs.PairSearch.{pair_before, found_of, found_in, only, lesser, greater, none_found, found_together, in_bits, stands_above, stands_below, is_found, settled}
+use Rattle.retro_dictionary.specs.PairSearch.{pair_before, found_of, found_in, lesser, greater, none_found, found_together, in_bits, stands_above, stands_below}
 
 abbrev found : ℕ → ℤ → Option (ℤ × ℤ) → Option (ℤ × ℤ) → Found
 found count sum least greatest = record { count = count; sum = sum; least = least; greatest = greatest }
@@ -202,12 +197,9 @@ together-none a is = together-swap a none_found ∙ none-together a is
 
 -- what is found of one pair, and of pairs one by one
 module _ (range : KeyRange) where
-  abbrev all_in : List (ℤ × ℤ) → Found
-  all_in ps = found_of (pairs_between range.low range.high ps)
-
   abbrev gathered : List (ℤ × ℤ) → Found
   gathered [] = none_found
-  gathered (p ∷ ps) = found_together (all_in (p ∷ [])) (gathered ps)
+  gathered (p ∷ ps) = found_together (found_in (p ∷ []) range) (gathered ps)
 
   gathered-held : (ps : List (ℤ × ℤ)) → IsHeld (gathered ps)
   gathered-held [] = held_bits (pos 0)
@@ -215,21 +207,21 @@ module _ (range : KeyRange) where
 
   gathered-append : (ps qs : List (ℤ × ℤ)) → gathered (ps ++ qs) ≡ found_together (gathered ps) (gathered qs)
   gathered-append [] qs = sym (none-together (gathered qs) (gathered-held qs))
-  gathered-append (p ∷ ps) qs = ap (found_together (all_in (p ∷ []))) (gathered-append ps qs) ∙ sym (together-regroup (all_in (p ∷ [])) (gathered ps) (gathered qs))
+  gathered-append (p ∷ ps) qs = ap (found_together (found_in (p ∷ []) range)) (gathered-append ps qs) ∙ sym (together-regroup (found_in (p ∷ []) range) (gathered ps) (gathered qs))
 
   gathered-put_in : (p : ℤ × ℤ) (qs : List (ℤ × ℤ)) → gathered (put_in pair_before p qs) ≡ gathered (p ∷ qs)
   gathered-put_in p [] = refl
   gathered-put_in p (q ∷ qs) = elim (pair_before q p) as (λ b. gathered (cond b (q ∷ put_in pair_before p qs) (p ∷ q ∷ qs)) ≡ gathered (p ∷ q ∷ qs)) [
     | true ↦
-        let one = all_in (p ∷ []) in
-        let other = all_in (q ∷ []) in
+        let one = found_in (p ∷ []) range in
+        let other = found_in (q ∷ []) range in
         ap (found_together other) (gathered-put_in p qs) ∙ sym (together-regroup other one (gathered qs)) ∙ ap (λ f. found_together f (gathered qs)) (together-swap other one) ∙ together-regroup one other (gathered qs)
     | false ↦ refl
   ]
 
   gathered-in_order : (ps : List (ℤ × ℤ)) → gathered (in_order pair_before ps) ≡ gathered ps
   gathered-in_order [] = refl
-  gathered-in_order (p ∷ ps) = gathered-put_in p (in_order pair_before ps) ∙ ap (found_together (all_in (p ∷ []))) (gathered-in_order ps)
+  gathered-in_order (p ∷ ps) = gathered-put_in p (in_order pair_before ps) ∙ ap (found_together (found_in (p ∷ []) range)) (gathered-in_order ps)
 
   -- the first of pairs in their order
   values-from : (start : ℤ) (ps : List (ℤ × ℤ)) → fold (λ sum pair. sum +ℤ pair.1) start ps ≡ start +ℤ sum_of_values ps
@@ -276,74 +268,36 @@ module _ (range : KeyRange) where
     | false ↦ all_inside P ps all.1
   ]
 
-  found-gathered : (ps : List (ℤ × ℤ)) → AreInOrder pair_before ps → all_in ps ≡ gathered ps
+  found-gathered : (ps : List (ℤ × ℤ)) → AreInOrder pair_before ps → found_in ps range ≡ gathered ps
   found-gathered [] ordered = refl
   found-gathered (p ∷ ps) ordered = elim (inside p) as (λ b. found_of (cond b (p ∷ filter inside ps) (filter inside ps)) ≡ found_together (found_of (cond b (p ∷ []) [])) (gathered ps)) [
     | true ↦ found-cons p (filter inside ps) (all_inside (λ later. pair_before later p ≡ false) ps ordered.0) ∙ ap (found_together (found_of (p ∷ []))) (found-gathered ps ordered.1)
     | false ↦ found-gathered ps ordered.1 ∙ sym (none-together (gathered ps) (gathered-held ps))
   ]
 
-  found-both : (ps qs : List (ℤ × ℤ)) → AreLawful pair_before ps qs → all_in (in_order pair_before (ps ++ qs)) ≡ found_together (all_in ps) (all_in qs)
+  found-both : (ps qs : List (ℤ × ℤ)) → AreLawful pair_before ps qs → found_in (in_order pair_before (ps ++ qs)) range ≡ found_together (found_in ps range) (found_in qs range)
   found-both ps qs lawful =
       found-gathered (in_order pair_before (ps ++ qs)) (in_order-ordered pair_order (ps ++ qs)) ∙ gathered-in_order (ps ++ qs) ∙ gathered-append ps qs
-      ∙ sym (ap (λ f. found_together f (all_in qs)) (found-gathered ps lawful.first_ordered) ∙ ap (found_together (gathered ps)) (found-gathered qs lawful.second_ordered))
-
--- no sums together are none
-no_sum : in_bits (pos 0) ≡ in_bits (in_bits (pos 0) +ℤ in_bits (pos 0))
-no_sum = sym (both_bits (pos 0) (pos 0) ∙ ap in_bits (let none : pos 0 +ℤ pos 0 ≡ pos 0 = omega (arith, ints) in none))
-
--- what is looked for of both is that of each
-only-together : (sought : Sought) (a b : Found) → only sought (found_together a b) ≡ found_together (only sought a) (only sought b)
-only-together All a b = refl
-only-together Least a b = same 0 (0 + 0) (in_bits (pos 0)) _ (lesser a.least b.least) _ None None refl no_sum refl refl
-only-together Greatest a b = same 0 (0 + 0) (in_bits (pos 0)) _ None None (greater a.greatest b.greatest) _ refl no_sum refl refl
-
-only-none : (sought : Sought) → only sought none_found ≡ none_found
-only-none All = refl
-only-none Least = refl
-only-none Greatest = refl
-
-only-held : (sought : Sought) (a : Found) → IsHeld a → IsHeld (only sought a)
-only-held All a is = is
-only-held Least a is = held_bits (pos 0)
-only-held Greatest a is = held_bits (pos 0)
-
-found-held : (ps : List (ℤ × ℤ)) (query : PairQuery) → IsHeld (found_in ps query)
-found-held ps query =
-    let between = pairs_between query.range.low query.range.high ps in
-    only-held query.sought (found_of between) (held_bits (sum_of_values between))
+      ∙ sym (ap (λ f. found_together f (found_in qs range)) (found-gathered ps lawful.first_ordered) ∙ ap (found_together (gathered ps)) (found-gathered qs lawful.second_ordered))
 
 pub pair_laws : SearchLaws pair_before found_in none_found found_together
 pair_laws = record {
-  together = λ ps qs query lawful. ap (only query.sought) (found-both query.range ps qs lawful) ∙ only-together query.sought (all_in query.range ps) (all_in query.range qs);
-  commutes = λ ps qs query lawful. together-swap (found_in ps query) (found_in qs query);
-  regroups = λ ps qs rs query first second few. together-regroup (found_in ps query) (found_in qs query) (found_in rs query);
-  of_none = λ query. only-none query.sought;
-  left_unit = λ ps query lawful. none-together (found_in ps query) (found-held ps query);
-  right_unit = λ ps query lawful. together-none (found_in ps query) (found-held ps query);
+  together = λ ps qs range lawful. found-both range ps qs lawful;
+  commutes = λ ps qs range lawful. together-swap (found_in ps range) (found_in qs range);
+  regroups = λ ps qs rs range first second few. together-regroup (found_in ps range) (found_in qs range) (found_in rs range);
+  of_none = λ range. refl;
+  left_unit = λ ps range lawful. none-together (found_in ps range) (held_bits (sum_of_values (pairs_between range.low range.high ps)));
+  right_unit = λ ps range lawful. together-none (found_in ps range) (held_bits (sum_of_values (pairs_between range.low range.high ps)));
 }
 
 -- pairs stand by their keys first, and those outside of a range are not found
-pub pair_range_laws : RangeLaws pair_before found_in stands_below stands_above settled
+pub pair_range_laws : RangeLaws pair_before found_in stands_below stands_above
 pair_range_laws = record {
-  below_downward = λ query x y after low. keys_rise x y query.range.low after low;
-  above_upward = λ query x y after high. keys_fall x y query.range.high after high;
-  of_below = λ xs query all. ap (λ ps. only query.sought (found_of ps)) (none_below query xs all);
-  of_above = λ xs query all. ap (λ ps. only query.sought (found_of ps)) (none_above query xs all);
-  of_settled = λ xs ys query done. stays query.range query.sought xs ys done;
+  below_downward = λ range x y after low. keys_rise x y range.low after low;
+  above_upward = λ range x y after high. keys_fall x y range.high after high;
+  of_below = λ xs range all. ap found_of (none_below range xs all);
+  of_above = λ xs range all. ap found_of (none_above range xs all);
 } where
-  first_of : (ps qs : List (ℤ × ℤ)) → is_some (slice_get ps 0) ≡ true → slice_get (ps ++ qs) 0 ≡ slice_get ps 0
-  first_of [] qs some = absurd (let never : false ≡ true = some in cc)
-  first_of (p ∷ ps) qs some = refl
-
-  stays : (range : KeyRange) (sought : Sought) (xs ys : List (ℤ × ℤ)) → is_found sought (only sought (found_of (pairs_between range.low range.high xs))) ≡ true
-      → only sought (found_of (pairs_between range.low range.high (xs ++ ys))) ≡ only sought (found_of (pairs_between range.low range.high xs))
-  stays range All xs ys done = absurd (let never : false ≡ true = done in cc)
-  stays range Greatest xs ys done = absurd (let never : false ≡ true = done in cc)
-  stays range Least xs ys done =
-      ap (λ least. only Least (record none_found { least = least }))
-      (ap (λ ps. slice_get ps 0) (filter-append (inside range) xs ys) ∙ first_of (pairs_between range.low range.high xs) (pairs_between range.low range.high ys) done)
-
   keys_rise : (x y : ℤ × ℤ) (low : ℤ) → pair_before y x ≡ false → int_lt y.0 low ≡ true → int_lt x.0 low ≡ true
   keys_rise x y low after below = elim (by-false y.0 x.0 (int_lt y.1 x.1) after) [
     | inl less ↦ grind (arith, ints)
@@ -362,14 +316,10 @@ pair_range_laws = record {
   out_above : (low high key : ℤ) → int_lt high key ≡ true → (int_le low key && int_le key high) ≡ false
   out_above low high key above = grind (arith, ints)
 
-  none_below : (query : PairQuery) (ps : List (ℤ × ℤ)) → AllByRecursion (λ p. stands_below query p ≡ true) ps → pairs_between query.range.low query.range.high ps ≡ []
-  none_below query [] all = refl
-  none_below query (p ∷ ps) all =
-      let others = pairs_between query.range.low query.range.high ps in
-      ap (λ b. cond b (p ∷ others) others) (out_below query.range.low query.range.high p.0 all.0) ∙ none_below query ps all.1
+  none_below : (range : KeyRange) (ps : List (ℤ × ℤ)) → AllByRecursion (λ p. stands_below range p ≡ true) ps → pairs_between range.low range.high ps ≡ []
+  none_below range [] all = refl
+  none_below range (p ∷ ps) all = ap (λ b. cond b (p ∷ pairs_between range.low range.high ps) (pairs_between range.low range.high ps)) (out_below range.low range.high p.0 all.0) ∙ none_below range ps all.1
 
-  none_above : (query : PairQuery) (ps : List (ℤ × ℤ)) → AllByRecursion (λ p. stands_above query p ≡ true) ps → pairs_between query.range.low query.range.high ps ≡ []
-  none_above query [] all = refl
-  none_above query (p ∷ ps) all =
-      let others = pairs_between query.range.low query.range.high ps in
-      ap (λ b. cond b (p ∷ others) others) (out_above query.range.low query.range.high p.0 all.0) ∙ none_above query ps all.1
+  none_above : (range : KeyRange) (ps : List (ℤ × ℤ)) → AllByRecursion (λ p. stands_above range p ≡ true) ps → pairs_between range.low range.high ps ≡ []
+  none_above range [] all = refl
+  none_above range (p ∷ ps) all = ap (λ b. cond b (p ∷ pairs_between range.low range.high ps) (pairs_between range.low range.high ps)) (out_above range.low range.high p.0 all.0) ∙ none_above range ps all.1

@@ -4,37 +4,34 @@ ghost use Rattle.std.specs.Prelude.{◌≡◌, ◌≤◌, length};
 ghost use Rattle.std.specs.Option.{option_and_then, option_map};
 ghost use Rattle.order_labels.specs.Labels.{AreLabels};
 ghost use Rattle.retro_base.specs.Answers.{number_of, pair_of};
-ghost use Rattle.retro_dictionary.specs.Asked.{query_of, look_for, keys_from, answer_from, found_at, value_at, value_put};
+ghost use Rattle.retro_dictionary.specs.Asked.{range_of, keys_from, answer_from, found_at, value_at, value_put};
 
-use crate::pairs::{Found, KeyPair, KeyRange, PairQuery, Sought};
+use crate::pairs::{Found, KeyPair, KeyRange};
 use crate::search::PairSearch;
 use key_index::KeyIndex;
 use lifetime_segments::{Decomposable, Segments};
 use order_labels::Labels;
 use retro_base::{Answer, Op, Question};
 
-/// What a question looks for, and among which keys. What a key has is found so too, but the index tells it sooner (`value_at`).
-pub(crate) fn query_of(question: Question) -> PairQuery
-    ensures { result ≡ query_of question }
+/// The keys that a question asks of. What a key has is found so too, but the index tells it sooner (`value_at`).
+pub(crate) fn range_of(question: Question) -> KeyRange
+    ensures { result ≡ range_of question }
 {
     match question {
-        Question::Get { key } => look_for(Sought::Least, key, key),
-        Question::Succ { key } => look_for(Sought::Least, key, i64::MAX),
-        Question::Pred { key } => look_for(Sought::Greatest, i64::MIN, key),
-        Question::Count { low, high } => look_for(Sought::All, low, high),
-        Question::Sum { low, high } => look_for(Sought::All, low, high),
-        _ => look_for(Sought::All, i64::MIN, i64::MAX),
+        Question::Get { key } => keys_from(key, key),
+        Question::Succ { key } => keys_from(key, i64::MAX),
+        Question::Pred { key } => keys_from(i64::MIN, key),
+        Question::Count { low, high } => keys_from(low, high),
+        Question::Sum { low, high } => keys_from(low, high),
+        _ => keys_from(i64::MIN, i64::MAX),
     }
 }
 
-/// This is looked for among the keys from low to high.
-fn look_for(sought: Sought, low: i64, high: i64) -> PairQuery
-    ensures { result ≡ look_for sought (keys_from low high) }
+/// The keys from low to high.
+fn keys_from(low: i64, high: i64) -> KeyRange
+    ensures { result ≡ keys_from low high }
 {
-    PairQuery {
-        range: KeyRange { low, high },
-        sought,
-    }
+    KeyRange { low, high }
 }
 
 /// The answer to a question, by what is found of the pairs in its range.
@@ -84,16 +81,16 @@ pub(crate) fn found_at(
     labels: &Labels,
     segments: &Segments<PairSearch>,
     place: u32,
-    query: PairQuery,
+    range: KeyRange,
 ) -> Found
     requires within { place ≤ length labels.now }
     requires labels { AreLabels labels.now }
-    ensures { result ≡ found_at labels.now segments.now place query }
+    ensures { result ≡ found_at labels.now segments.now place range }
 {
     if place == 0 {
         return PairSearch::empty();
     }
-    segments.ask(labels.label_at(place - 1), query)
+    segments.ask(labels.label_at(place - 1), range)
 }
 
 /// The value of a key at a place: what the last row on it up to there puts. It needs no search of the lifetimes.

@@ -5,7 +5,7 @@ ghost use Rattle.retro_base.specs.declared.kind.Kind.TheVariants.{Dict};
 ghost use Rattle.retro_base.specs.Answers.{answer_of, content};
 ghost use Rattle.retro_base.specs.Replay.{state_at};
 
-use crate::asked::{answer_from, found_at, number_of, query_of, value_at};
+use crate::asked::{answer_from, found_at, number_of, range_of, value_at};
 use crate::edit::{put, take_out};
 use crate::failing::{place_of_bad, place_of_bad_label};
 use crate::free_label::label_before;
@@ -56,7 +56,7 @@ impl RetroDictionary {
             &self.kept.labels,
             &self.kept.segments,
             place,
-            query_of(question),
+            range_of(question),
         );
         answer_from(question, &found)
     }

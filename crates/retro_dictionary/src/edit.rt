@@ -1,11 +1,12 @@
 //! A row with a label comes in or goes, with the lifetimes that it begins and ends.
 
-ghost use Rattle.std.specs.Prelude.{◌≡◌, slice_get, Some, None, OnOk, OnErr, IfOk};
+ghost use Rattle.std.specs.Prelude.{◌≡◌, ◌<◌, ◌≤◌, length, slice_get, Some, None, OnOk, OnErr, IfOk};
 ghost use Rattle.std.specs.List.{insert, remove};
 ghost use Rattle.key_index.specs.KeyRows.{op_at, with_row, without};
 ghost use Rattle.order_labels.specs.Labels.{inserted_by};
 ghost use Rattle.retro_base.specs.declared.kind.Kind.TheVariants.{Dict};
 ghost use Rattle.retro_base.specs.Kind.{kind_of};
+ghost use Rattle.retro_base.specs.Limits.{most_rows};
 ghost use Rattle.retro_dictionary.specs.Edited.{CanPut, CanCut, CanRemove, IsBetween, left_of, next_of, cut_by, joined_by};
 ghost use Rattle.retro_dictionary.specs.Ready.{IsLabelled, IsReadyFor};
 ghost use Rattle.retro_dictionary.specs.RelabellingLaw.{counted_by, one_more};
@@ -20,8 +21,9 @@ use crate::search::PairSearch;
 use key_index::KeyIndex;
 use lifetime_segments::Segments;
 use monoid_laws::Counted;
+use order_labels::Labels;
 use retro_base::{NoMemory, Op, PackedRow, Row};
-use weighted_tree::uncounted;
+use weighted_tree::{Tree, uncounted};
 
 /// Puts a row in at a label, and ends and begins lifetimes by it. After `NoMemory` all is as before.
 fn put_labelled(
@@ -74,6 +76,31 @@ fn take_labelled(
     Ok(())
 }
 
+/// Puts a row and its label in at a place. After `NoMemory` both are as before.
+fn put_row(
+    rows: &mut Tree<Counted<PackedRow>>,
+    labels: &mut Labels,
+    place: u32,
+    label: u64,
+    row: Row,
+) -> Result<(), NoMemory>
+    requires within { place ≤ length rows.old }
+    requires room { length rows.old < most_rows }
+    requires as_many { length labels.old ≡ length rows.old }
+    requires between { IsBetween labels.old place label }
+    ensures rows_ok { OnOk result (rows.new ≡ insert rows.old place row) }
+    ensures labels_ok { OnOk result (labels.new ≡ insert labels.old place label) }
+    ensures rows_err { OnErr result (rows.new ≡ rows.old) }
+    ensures labels_err { OnErr result (labels.new ≡ labels.old) }
+{
+    labels.insert_labelled(place, label)?;
+    if uncounted::insert(rows, place, Counted::new(PackedRow::new(row))).is_err() {
+        labels.remove(place);
+        return Err(NoMemory);
+    }
+    Ok(())
+}
+
 /// Puts a row in at a place, at a label that is left there. After `NoMemory` all is as before.
 fn put_between(kept: &mut LabelledRows, place: u32, label: u64, row: Row) -> Result<(), NoMemory>
     requires ready { IsReadyFor kept.old place row }
@@ -84,11 +111,7 @@ fn put_between(kept: &mut LabelledRows, place: u32, label: u64, row: Row) -> Res
     ensures kept { OnOk result (IsLabelled kept.new) }
     ensures err { OnErr result (kept.new ≡ kept.old) }
 {
-    kept.labels.insert_labelled(place, label)?;
-    if uncounted::insert(&mut kept.rows, place, Counted::new(PackedRow::new(row))).is_err() {
-        kept.labels.remove(place);
-        return Err(NoMemory);
-    }
+    put_row(&mut kept.rows, &mut kept.labels, place, label, row)?;
     if put_labelled(&mut kept.index, &mut kept.segments, label, row.op).is_err() {
         uncounted::remove(&mut kept.rows, place);
         kept.labels.remove(place);

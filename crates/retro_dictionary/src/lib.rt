@@ -9,8 +9,8 @@
 //! [`RetroDictionary`] is seen as its rows, and implements `Retro` of `retro_base`. It keeps them by place, with a label for
 //! each, an index of them by key, which knows the row that fails first and the rows beside an edit on its key, and the
 //! lifetimes of all pairs. `PairSearch` is the search, as `lifetime_segments` asks for it: how many pairs have keys in a range,
-//! their sum, and the least and the greatest of them, or one of these alone. It answers every question of a dictionary but one: what a
-//! key has is what the last row on it puts, which the index tells by one search.
+//! their sum, and the least and the greatest of them. It answers every question of a dictionary; what a key has is told sooner by the
+//! last row on it, which is one search of the index.
 //!
 //! | Call | Cost, with n rows |
 //! |---|---|
@@ -23,7 +23,7 @@
 //! `insert`, `remove` and `all` take memory; where there is none, all is as before.
 //!
 //! What the layer above may rely on is `Retro`. Why it holds is reported by specs/Lifetimes.antt, which lifetimes rows have;
-//! specs/Asked.antt, what a question looks for and among which keys, and what a key has; specs/LabelledRows.antt, what is kept of rows; the laws over them
+//! specs/Asked.antt, which range of keys answers a question, and what a key has; specs/LabelledRows.antt, what is kept of rows; the laws over them
 //! in specs/DictionaryLaws.antt; specs/RowLabels.antt, which label a row gets; and specs/RelabellingLaw.antt, how rarely all rows
 //! get new ones. Rows that come in one after another, at the end or at one place, mostly find a label: each leaves most of the
 //! gap there for those that follow.
@@ -31,7 +31,7 @@
 //! - `dictionary`: the type and its calls. `edit`: rows put in and taken out; `free_label`, the label of a new row, by `recent`, and
 //!   `relabel`, where none is left; `lifetimes`, what becomes of two lifetimes. `failing`: the place of the row that fails first.
 //! - `asked`: questions, by what is found of a range of keys, and of one key by the index. `listed`: the whole content.
-//! - `pairs`: `KeyPair`, `KeyRange`, `Sought`, `PairQuery`, `Found`. `search`: `PairSearch`. `labelled_rows`: what is kept of the rows.
+//! - `pairs`: `KeyPair`, `KeyRange`, `Found`. `search`: `PairSearch`. `labelled_rows`: what is kept of the rows.
 //! - `laws`: what lifetimes tell of a dictionary, how an edit changes them, and how rarely rows are relabelled.
 #![tactic(auto)]
 
@@ -50,5 +50,5 @@ mod relabel;
 mod search;
 
 pub use dictionary::RetroDictionary;
-pub use pairs::{Found, KeyPair, KeyRange, PairQuery, Sought};
+pub use pairs::{Found, KeyPair, KeyRange};
 pub use search::PairSearch;

@@ -21,33 +21,14 @@ impl Model for KeyPair {
 }
 
 /// The keys from `low` to `high`, both included.
-#[derive(Clone, Copy, Debug, PartialEq, Eq)]
+#[derive(Clone, Copy)]
 pub struct KeyRange {
     pub low: i64,
     pub high: i64,
 }
 
-/// What is looked for among the pairs whose keys lie in a range.
-#[derive(Clone, Copy, Debug, PartialEq, Eq)]
-pub enum Sought {
-    /// All of them.
-    All,
-    /// The least one alone.
-    Least,
-    /// The greatest one alone.
-    Greatest,
-}
-
-/// What is asked of pairs.
-#[derive(Clone, Copy, Debug, PartialEq, Eq)]
-pub struct PairQuery {
-    pub range: KeyRange,
-    pub sought: Sought,
-}
-
-/// What is found of the pairs whose keys lie in a range, as far as it is looked for: where one end alone is, there is that end, and
-/// the rest is as where nothing is found.
-#[derive(Clone, Copy, Debug, PartialEq, Eq)]
+/// What is found of the pairs whose keys lie in a range.
+#[derive(Clone, Copy, Debug, PartialEq)]
 pub struct Found {
     pub count: u32,
     pub sum: i128,

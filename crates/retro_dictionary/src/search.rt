@@ -2,18 +2,17 @@
 
 ghost use Rattle.std.specs.Prelude.{◌≡◌, ◌-◌, ◌<◌, ◌≤◌, ◌∷◌, [], suc, true, length, slice_get, Some, IfSome, IfNone};
 ghost use Rattle.std.specs.List.{slice_range};
-ghost use Rattle.retro_base.specs.Answers.{last_of, pairs_between};
+ghost use Rattle.retro_base.specs.Answers.{pairs_between};
 ghost use Rattle.lifetime_segments.specs.Lawful.{IsLawful};
 ghost use Rattle.retro_dictionary.specs.PairSearch.{pair_before, found_in, found_of, none_found, found_together, lesser, greater};
 ghost use Rattle.retro_dictionary.specs.declared.search.Bound.TheVariants.{Below, UpTo};
 ghost use Rattle.retro_dictionary.specs.Bounds.{reaches, StandUpTo, FailsAt, HasNumber, IsFirstWithin, IsLastWithin};
 
-use crate::pairs::{Found, KeyPair, KeyRange, PairQuery, Sought};
+use crate::pairs::{Found, KeyPair, KeyRange};
 use lifetime_segments::{Decomposable, RangeSearch};
 use weighted_tree::{Tree, uncounted};
 
-/// The search of a dictionary: how many pairs have keys in a range, their sum, and the least and the greatest of them, or one of
-/// these two alone.
+/// The search of a dictionary: how many pairs have keys in a range, their sum, and the least and the greatest of them.
 #[derive(Clone, Copy)]
 pub struct PairSearch;
 
@@ -23,7 +22,7 @@ impl Decomposable for PairSearch {
 
     type Item = KeyPair;
 
-    type Query = PairQuery;
+    type Query = KeyRange;
 
     type Part = Found;
 
@@ -52,7 +51,7 @@ impl Decomposable for PairSearch {
         }
     }
 
-    fn ask(items: &Tree<KeyPair>, query: PairQuery) -> Found {
+    fn ask(items: &Tree<KeyPair>, query: KeyRange) -> Found {
         found_in(items, query)
     }
 
@@ -67,42 +66,28 @@ impl Decomposable for PairSearch {
 }
 
 impl RangeSearch for PairSearch {
-    ghost use Rattle.retro_dictionary.specs.PairSearch.{stands_below, stands_above, settled};
+    ghost use Rattle.retro_dictionary.specs.PairSearch.{stands_below, stands_above};
     ghost use Rattle.retro_dictionary.specs.PairSearchLaws.{pair_range_laws};
 
     ghost below = { stands_below };
 
     ghost above = { stands_above };
 
-    ghost settled = { settled };
-
     ghost range_laws = { pair_range_laws };
 
-    fn is_below(item: &KeyPair, query: PairQuery) -> bool {
-        item.key < query.range.low
+    fn is_below(item: &KeyPair, query: KeyRange) -> bool {
+        item.key < query.low
     }
 
-    fn is_above(item: &KeyPair, query: PairQuery) -> bool {
-        query.range.high < item.key
+    fn is_above(item: &KeyPair, query: KeyRange) -> bool {
+        query.high < item.key
     }
 
-    /// The pairs stand in their order, so the first one that is found is the least.
-    fn is_settled(part: &Found, query: PairQuery) -> bool {
-        match query.sought {
-            Sought::Least => part.least.is_some(),
-            Sought::All | Sought::Greatest => false,
-        }
-    }
-
-    fn with_one(part: Found, item: &KeyPair, query: PairQuery) -> Found {
-        if item.key < query.range.low || query.range.high < item.key {
+    fn with_one(part: Found, item: &KeyPair, query: KeyRange) -> Found {
+        if item.key < query.low || query.high < item.key {
             return part;
         }
-        match query.sought {
-            Sought::All => PairSearch::combine(part, found_of_one(*item)),
-            Sought::Least => with_least(part, *item),
-            Sought::Greatest => with_greatest(part, *item),
-        }
+        PairSearch::combine(part, found_of_one(*item))
     }
 }
 
@@ -135,86 +120,12 @@ struct Placed {
     pair: KeyPair,
 }
 
-/// What is found of pairs, as far as it is looked for.
-fn found_in(items: &Tree<KeyPair>, query: PairQuery) -> Found
-    requires lawful { IsLawful pair_before items.now }
-    ensures { result ≡ found_in items.now query }
-{
-    match query.sought {
-        Sought::All => found_within(items, query.range),
-        Sought::Least => of_least(least_within(items, query.range)),
-        Sought::Greatest => of_greatest(greatest_within(items, query.range)),
-    }
-}
-
-/// What is found with one pair more, where the least one alone is looked for.
-fn with_least(part: Found, pair: KeyPair) -> Found
-    ensures { result ≡ record part { least = lesser part.least (Some pair) } }
-{
-    let mut found = part;
-    found.least = lesser(part.least, Some(pair));
-    found
-}
-
-/// What is found with one pair more, where the greatest one alone is looked for.
-fn with_greatest(part: Found, pair: KeyPair) -> Found
-    ensures { result ≡ record part { greatest = greater part.greatest (Some pair) } }
-{
-    let mut found = part;
-    found.greatest = greater(part.greatest, Some(pair));
-    found
-}
-
-/// What is found where the least pair alone is looked for.
-fn of_least(least: Option<KeyPair>) -> Found
-    ensures { result ≡ record none_found { least = least } }
-{
-    let mut found = PairSearch::empty();
-    found.least = least;
-    found
-}
-
-/// What is found where the greatest pair alone is looked for.
-fn of_greatest(greatest: Option<KeyPair>) -> Found
-    ensures { result ≡ record none_found { greatest = greatest } }
-{
-    let mut found = PairSearch::empty();
-    found.greatest = greatest;
-    found
-}
-
-/// The least pair whose key lies in a range, if there is one.
-fn least_within(items: &Tree<KeyPair>, range: KeyRange) -> Option<KeyPair>
-    requires lawful { IsLawful pair_before items.now }
-    ensures { result ≡ slice_get (pairs_between range.low range.high items.now) 0 }
-{
-    let first = first_within(items, range)?;
-    Some(first.pair)
-}
-
-/// The greatest pair whose key lies in a range, if there is one.
-fn greatest_within(items: &Tree<KeyPair>, range: KeyRange) -> Option<KeyPair>
-    requires lawful { IsLawful pair_before items.now }
-    ensures { result ≡ last_of (pairs_between range.low range.high items.now) }
-{
-    let count = count_up_to(items, Bound::UpTo { key: range.high });
-    if count == 0 {
-        return None;
-    }
-    let pair = uncounted::get(items, count - 1);
-    if pair.key < range.low {
-        None
-    } else {
-        Some(pair)
-    }
-}
-
 /// What is found of the pairs whose keys lie in a range.
 ///
-/// A question about all of them asks some dozen trees, of which most have none: one search and one look tell that.
-fn found_within(items: &Tree<KeyPair>, range: KeyRange) -> Found
+/// A question asks some dozen trees, of which most have no pair in its range: one search and one look tell that.
+fn found_in(items: &Tree<KeyPair>, range: KeyRange) -> Found
     requires lawful { IsLawful pair_before items.now }
-    ensures { result ≡ found_of (pairs_between range.low range.high items.now) }
+    ensures { result ≡ found_in items.now range }
 {
     let Some(first) = first_within(items, range) else {
         return PairSearch::empty();
@@ -234,7 +145,7 @@ fn first_within(items: &Tree<KeyPair>, range: KeyRange) -> Option<Placed>
     Some(Placed { place, pair })
 }
 
-/// The last pair whose key lies in a range, by the first one. A range of one key mostly has no other, which a look tells.
+/// The last pair whose key lies in a range, by the first one. A range of one key mostly has no other.
 fn last_within(items: &Tree<KeyPair>, first: &Placed, range: KeyRange) -> Placed
     requires lawful { IsLawful pair_before items.now }
     requires first { IsFirstWithin range items.now first.now }

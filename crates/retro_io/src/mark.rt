@@ -3,7 +3,7 @@
 use thiserror::Error;
 
 /// What the reader came to.
-#[derive(Clone, Copy, Debug, PartialEq, Eq)]
+#[derive(Clone, Copy)]
 pub enum Mark {
     /// A line that is not long.
     Whole,
@@ -14,7 +14,7 @@ pub enum Mark {
 }
 
 /// Why there is no next line, although the input may go on.
-#[derive(Clone, Copy, Debug, PartialEq, Eq, Error)]
+#[derive(Clone, Copy, Debug, Error)]
 pub enum ReadError {
     /// The source failed.
     #[error("the source failed")]

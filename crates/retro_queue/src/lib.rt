@@ -8,7 +8,7 @@
 //!
 //! `RetroQueue` is seen as its rows. It is a `RetroLine` of `prefix_trees` over the rows of a queue: so it implements `Partial`
 //! and `Retro` of `retro_base`. For each binary digit of one more than the number of rows `ask_past` visits at most 36 nodes, and
-//! each call of `Partial` that takes a counter at most 144; only `insert`, `copy` and the listings take memory.
+//! each call of `Partial` that takes a counter at most 144, but for those that answer for a later structure; only `insert`, `copy` and the listings take memory.
 //!
 //! - `RetroQueue`.
 //! - `queue`: the kind, and the type.

@@ -12,7 +12,7 @@ use retro_base::{Kind, NoMemory, Text};
 use std::marker::Model;
 
 /// Gives the lines of a generated script one after another. Contracts see the lines that are still to come.
-#[derive(Debug, Drop)]
+#[derive(Drop)]
 pub struct ScriptGen {
     kind: Kind,
     lines: u32,

@@ -8,7 +8,7 @@ use crate::draws::Draws;
 use retro_base::{Kind, Op};
 
 /// What a line of the script asks for.
-#[derive(Clone, Copy, Debug)]
+#[derive(Clone, Copy)]
 pub(crate) enum Line {
     /// A row at a time.
     Insert { time: u32, op: Op },

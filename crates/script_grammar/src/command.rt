@@ -4,7 +4,7 @@ use retro_base::{Kind, Name, Op, Question};
 use thiserror::Error;
 
 /// What a line of a script asks for.
-#[derive(Clone, Copy, Debug, PartialEq, Eq)]
+#[derive(Clone, Copy)]
 pub enum Command {
     /// Asks for nothing, and is answered by nothing: the line has no words, or is a comment.
     Nothing,
@@ -74,7 +74,7 @@ pub enum Command {
 }
 
 /// A place in a timeline, between its rows.
-#[derive(Clone, Copy, Debug, PartialEq, Eq)]
+#[derive(Clone, Copy)]
 pub enum Spot {
     /// After the rows up to this time.
     At { time: u64 },
@@ -85,7 +85,7 @@ pub enum Spot {
 }
 
 /// When a question is asked.
-#[derive(Clone, Copy, Debug, PartialEq, Eq)]
+#[derive(Clone, Copy)]
 pub enum Moment {
     /// After all rows.
     Now,
@@ -94,7 +94,7 @@ pub enum Moment {
 }
 
 /// What is asked.
-#[derive(Clone, Copy, Debug, PartialEq, Eq)]
+#[derive(Clone, Copy)]
 pub enum Query {
     /// One question of the content.
     One { question: Question },
@@ -103,7 +103,7 @@ pub enum Query {
 }
 
 /// Why a line has no command.
-#[derive(Clone, Copy, Debug, PartialEq, Eq, Error)]
+#[derive(Clone, Copy, Debug, Error)]
 pub enum LineError {
     /// It has more bytes than a line may have.
     #[error("the line is too long")]

@@ -7,7 +7,7 @@ use crate::numbers::read_value;
 use crate::words::Words;
 
 /// The values after the word of an operation or a question.
-#[derive(Clone, Copy, Debug)]
+#[derive(Clone, Copy)]
 pub enum Operands {
     /// None.
     Bare,

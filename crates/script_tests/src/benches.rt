@@ -29,7 +29,7 @@ fn is_fused(rt: &impl Abort, bench: &Bench, name: &[u8]) -> bool {
 
 fn expect_lines(rt: &impl Abort, bench: &mut Bench, lines: &[(&[u8], &[u8])]) {
     for (line, expected) in lines {
-        assert_eq!(rt; answer(rt, bench, *line).as_bytes(), *expected);
+        assert!(rt; answer(rt, bench, *line).as_bytes() == *expected);
     }
 }
 
@@ -74,5 +74,5 @@ fn a_bench_answers_line_by_line(rt: HostRuntime) {
     expect_lines(&rt, &mut bench, &LOADS);
     assert!(&rt; !is_fused(&rt, &bench, b"l"));
     let last = last_answer(&rt, &mut bench);
-    assert_eq!(&rt; last.as_bytes(), b"refused unfinished\n".as_slice());
+    assert!(&rt; last.as_bytes() == b"refused unfinished\n".as_slice());
 }

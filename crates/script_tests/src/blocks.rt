@@ -10,13 +10,13 @@ fn a_block_is_read_line_by_line(rt: HostRuntime) {
         reader.take(line, false).expect(&rt, "memory");
     }
     let rows = reader.finish(true).expect(&rt, "a timeline");
-    assert_eq!(rt; rows.len(), 2);
+    assert!(rt; rows.len() == 2);
     let second = Row {
         number: 2,
         time: 20,
         op: Op::Deq,
     };
-    assert_eq!(rt; rows.row(1), second);
+    assert!(rt; rows.row(1) == second);
 }
 
 #[test]
@@ -26,7 +26,7 @@ fn a_block_that_is_too_long(rt: HostRuntime) {
     reader.take(&[b' '; 4096], true).expect(&rt, "memory");
     let found = reader.finish(true).map(|rows| rows.len());
     let cause = RowCause::Syntax;
-    assert_eq!(rt; found, Err(BlockError::Row { place: 2, cause }));
+    assert!(rt; found == Err(BlockError::Row { place: 2, cause }));
 }
 
 #[test]
@@ -58,5 +58,5 @@ fn what_is_saved(rt: HostRuntime) {
 #3 1000 del -1
 end
 ";
-    assert_eq!(rt; out.as_bytes(), expected.as_slice());
+    assert!(rt; out.as_bytes() == expected.as_slice());
 }

@@ -73,11 +73,11 @@ fn expect_reports(rt: &impl Abort, alloc: Global, lines: &[&[u8]], reports: [&[u
             feed(&mut followers, &event).expect(rt, "memory");
         }
     }
-    assert_eq!(rt; followers.len(), reports.len());
+    assert!(rt; followers.len() == reports.len());
     for (follower, report) in followers.iter().zip(reports) {
         let mut text = Text::new(alloc);
         follower.report(&mut text).expect(rt, "memory");
-        assert_eq!(rt; text.as_bytes(), report);
+        assert!(rt; text.as_bytes() == report);
     }
 }
 

@@ -26,6 +26,6 @@ fn a_judge_takes_line_by_line(rt: HostRuntime) {
     ];
     for (line, expected, accepted) in lines {
         assert_eq!(rt; take(&rt, &mut checker, line), expected, "{line:?}");
-        assert_eq!(rt; checker.accepted(), accepted);
+        assert!(rt; checker.accepted() == accepted);
     }
 }

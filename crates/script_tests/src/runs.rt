@@ -55,8 +55,8 @@ fn expect_run(
 ) {
     let mut sink = sink_of(rt, alloc, given);
     let ended = run_over(rt, alloc, given, &mut sink);
-    assert_eq!(rt; sink.written(), answers);
-    assert_eq!(rt; ended, status);
+    assert!(rt; sink.written() == answers);
+    assert!(rt; ended == status);
 }
 
 /// The same over an outbox before the sink, which is sent.
@@ -70,8 +70,8 @@ fn expect_gathered(
     let mut source = source_of(rt, alloc, given);
     let mut outbox = Outbox::new(alloc, sink_of(rt, alloc, given)).expect(rt, "memory");
     let ended = run_sending(alloc, &words, &mut source, &mut outbox, Vec::new(alloc));
-    assert_eq!(rt; outbox.sink().written(), answers);
-    assert_eq!(rt; ended, status);
+    assert!(rt; outbox.sink().written() == answers);
+    assert!(rt; ended == status);
 }
 
 const RUN: &[&[u8]] = &[b"run"];
@@ -251,7 +251,7 @@ fn each_status_has_its_code(rt: HostRuntime) {
             writes,
         };
         expect_run(&rt, rt.alloc(), &given, (answers, status));
-        assert_eq!(rt; status.code(), code);
+        assert!(rt; status.code() == code);
     }
 }
 
@@ -307,8 +307,8 @@ fn a_flush_that_fails_is_not_tried_again(rt: HostRuntime) {
         faults: 0,
     };
     let status = run_over(&rt, rt.alloc(), &given, &mut sink);
-    assert_eq!(rt; status, Status::WriteFault);
-    assert_eq!(rt; sink.flushes, 1);
+    assert!(rt; status == Status::WriteFault);
+    assert!(rt; sink.flushes == 1);
 }
 
 /// The program with a tally and a mirror of `p` as followers.
@@ -337,8 +337,8 @@ fn expect_followed(
 ) {
     let mut sink = sink_of(rt, alloc, given);
     let ended = run_followed_over(rt, alloc, given, &mut sink);
-    assert_eq!(rt; sink.written(), answers);
-    assert_eq!(rt; ended, status);
+    assert!(rt; sink.written() == answers);
+    assert!(rt; ended == status);
 }
 
 /// A fault leaves no report, or the reports before it; with the word `run` no follower is asked.
@@ -448,7 +448,7 @@ fn each_follower_reports(rt: HostRuntime) {
         let followers = tallies(&rt, rt.alloc(), count);
         assert!(rt; followers.len() <= 1024);
         let ended = run_followed(rt.alloc(), &words, &mut source, &mut sink, followers);
-        assert_eq!(rt; sink.written(), written);
-        assert_eq!(rt; ended, Status::Done);
+        assert!(rt; sink.written() == written);
+        assert!(rt; ended == Status::Done);
     }
 }

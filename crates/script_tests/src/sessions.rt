@@ -41,17 +41,17 @@ fn cut_row(
 /// The numbers of the rows are these, in this order.
 fn expect_numbers(rt: &impl Abort, session: &Session<PlainList>, numbers: &[u32]) {
     assert!(rt; !session.spent());
-    assert_eq!(rt; session.timeline().len() as usize, numbers.len());
+    assert!(rt; session.timeline().len() as usize == numbers.len());
     for (place, number) in numbers.iter().enumerate() {
         assert!(rt; place < session.timeline().len() as usize);
-        assert_eq!(rt; session.timeline().row_at(place as u32).number, *number);
+        assert!(rt; session.timeline().row_at(place as u32).number == *number);
     }
 }
 
 /// The number that the next row draws.
 fn expect_next(rt: &impl Abort, session: &Session<PlainList>, number: u32) {
     assert!(rt; !session.spent());
-    assert_eq!(rt; session.next(), number);
+    assert!(rt; session.next() == number);
 }
 
 fn turn(added: bool, place: u32, number: u32, time: u64, op: Op) -> Turn {
@@ -98,7 +98,7 @@ fn expect_put(
 ) {
     for (time, op, expected) in rows {
         let found = put_at(rt, session, *time, *op).map(|put| put.number);
-        assert_eq!(rt; found, *expected);
+        assert!(rt; found == *expected);
     }
 }
 
@@ -108,7 +108,7 @@ fn expect_cut(
     number: u32,
     expected: Result<Turn, EditError>,
 ) {
-    assert_eq!(rt; cut_row(rt, session, number), expected);
+    assert!(rt; cut_row(rt, session, number) == expected);
 }
 
 fn expect_undone(
@@ -118,7 +118,7 @@ fn expect_undone(
 ) {
     for expected in steps {
         assert!(rt; !session.spent());
-        assert_eq!(rt; session.undo(), *expected);
+        assert!(rt; session.undo() == *expected);
     }
 }
 
@@ -129,7 +129,7 @@ fn expect_redone(
 ) {
     for expected in steps {
         assert!(rt; !session.spent());
-        assert_eq!(rt; session.redo(), *expected);
+        assert!(rt; session.redo() == *expected);
     }
 }
 
@@ -202,7 +202,7 @@ fn expect_shifts(rt: &impl Abort, session: &mut Session<PlainList>) {
         (3, Target::Into { op: Op::Pop }, Err(fails(5, 15))),
     ];
     for (number, target, expected) in rows {
-        assert_eq!(rt; shift_row(rt, session, number, target), expected);
+        assert!(rt; shift_row(rt, session, number, target) == expected);
     }
 }
 
@@ -244,12 +244,12 @@ fn expect_at(
     assert!(rt; !session.spent());
     assert!(rt; place <= session.timeline().len());
     assert!(rt; Question::Top.suits(session.kind()));
-    assert_eq!(rt; session.ask(place, Question::Top).expect(rt, "memory"), top);
+    assert!(rt; session.ask(place, Question::Top).expect(rt, "memory") == top);
     let listing = session.all(place).expect(rt, "memory");
-    assert_eq!(rt; listing.len() as usize, items.len());
+    assert!(rt; listing.len() as usize == items.len());
     for (index, item) in items.iter().enumerate() {
         assert!(rt; index < listing.len() as usize);
-        assert_eq!(rt; listing.item(index as u32), *item);
+        assert!(rt; listing.item(index as u32) == *item);
     }
 }
 
@@ -272,8 +272,8 @@ fn appended(rt: &impl Abort, alloc: Global) -> Session<PlainList> {
         op: Op::Enq { value: 1 },
     };
     let failing = session.structure().failure_after_insert(0, row.op);
-    assert_eq!(rt; failing, None);
-    assert_eq!(rt; session.append(row).expect(rt, "memory"), Change::Plain);
+    assert!(rt; failing == None);
+    assert!(rt; session.append(row).expect(rt, "memory") == Change::Plain);
     session
 }
 

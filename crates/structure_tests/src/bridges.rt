@@ -78,7 +78,7 @@ impl Bridges {
         assert!(rt; self.queue.len() < MAX_ROWS && number < MAX_NEXT);
         assert!(rt; place <= self.queue.len());
         assert!(rt; op.kind() == self.queue.kind());
-        assert_eq!(rt; self.queue.failure_after_insert(place, op, steps), None);
+        assert!(rt; self.queue.failure_after_insert(place, op, steps) == None);
         let row = Row {
             number,
             time: 0,
@@ -97,7 +97,7 @@ impl Bridges {
         steps: &mut Steps<L>,
     ) -> (Row, Change) {
         assert!(rt; place < self.queue.len());
-        assert_eq!(rt; self.queue.failure_after_remove(place, steps), None);
+        assert!(rt; self.queue.failure_after_remove(place, steps) == None);
         self.queue.remove(place, steps)
     }
 
@@ -120,11 +120,11 @@ fn expect_rows<L: Ledger>(
     rows: &[(u32, Op)],
     steps: &mut Steps<L>,
 ) {
-    assert_eq!(rt; queue.len() as usize, rows.len());
+    assert!(rt; queue.len() as usize == rows.len());
     for (place, (number, op)) in rows.iter().enumerate() {
         assert!(rt; place < queue.len() as usize);
         let row = queue.row_at(place as u32, steps);
-        assert_eq!(rt; (row.number, row.op), (*number, *op));
+        assert!(rt; (row.number, row.op) == (*number, *op));
     }
 }
 
@@ -159,7 +159,7 @@ fn three_rows<L: Ledger>(rt: &impl Abort, alloc: Global, steps: &mut Steps<L>) -
         (1, Op::DelMin, lose(1, 1, 4)),
         (0, TWO, gain(0, 1, 4)),
     ] {
-        assert_eq!(rt; bridges.put(rt, place, op, steps), change);
+        assert!(rt; bridges.put(rt, place, op, steps) == change);
     }
     bridges
 }
@@ -167,11 +167,24 @@ fn three_rows<L: Ledger>(rt: &impl Abort, alloc: Global, steps: &mut Steps<L>) -
 fn expect_failures<L: Ledger>(rt: &impl Abort, bridges: &Bridges, steps: &mut Steps<L>) {
     for (place, index) in [(0, Some(0)), (1, None), (2, None), (3, None)] {
         let failing = bridges.failing_with(rt, place, Op::DelMin, steps);
-        assert_eq!(rt; failing, index);
+        assert!(rt; failing == index);
     }
     for (place, index) in [(0, None), (1, None), (2, None)] {
-        assert_eq!(rt; bridges.failing_without(rt, place, steps), index);
+        assert!(rt; bridges.failing_without(rt, place, steps) == index);
     }
+}
+
+/// Of `ins 4` and `delmin` no more can be taken, and nothing that is taken goes.
+fn expect_refusals<L: Ledger>(rt: &impl Abort, alloc: Global, steps: &mut Steps<L>) {
+    let mut bridges = Bridges::new(alloc);
+    for (place, op) in [(0, FOUR), (1, Op::DelMin)] {
+        bridges.put(rt, place, op, steps);
+    }
+    for place in [1, 2] {
+        let failing = bridges.failing_with(rt, place, Op::DelMin, steps);
+        assert!(rt; failing == Some(2));
+    }
+    assert!(rt; bridges.failing_without(rt, 0, steps) == Some(0));
 }
 
 fn expect_present<L: Ledger>(rt: &impl Abort, bridges: &Bridges, steps: &mut Steps<L>) {
@@ -180,7 +193,7 @@ fn expect_present<L: Ledger>(rt: &impl Abort, bridges: &Bridges, steps: &mut Ste
         (Question::Min, Answer::Number { value: 4 }),
         (Question::Nth { index: 1 }, Answer::Nothing),
     ] {
-        assert_eq!(rt; bridges.ask_now(rt, question, steps), answer);
+        assert!(rt; bridges.ask_now(rt, question, steps) == answer);
     }
     expect_content(rt, bridges.queue(), &[4]);
 }
@@ -189,7 +202,7 @@ fn expect_present<L: Ledger>(rt: &impl Abort, bridges: &Bridges, steps: &mut Ste
 fn expect_copy<L: Ledger>(rt: &impl Abort, bridges: &mut Bridges, steps: &mut Steps<L>) {
     let copy = bridges.queue().copy().expect(rt, "memory");
     let (row, change) = bridges.cut(rt, 0, steps);
-    assert_eq!(rt; (row.number, row.op, change), (3, TWO, lose(3, 1, 4)));
+    assert!(rt; (row.number, row.op, change) == (3, TWO, lose(3, 1, 4)));
     expect_content(rt, bridges.queue(), &[]);
     expect_rows(rt, bridges.queue(), &[(1, FOUR), (2, Op::DelMin)], steps);
     expect_content(rt, &copy, &[4]);
@@ -202,6 +215,7 @@ fn worked<L: Ledger>(rt: &impl Abort, alloc: Global, blank: Blank)
     let mut steps = Steps::<L>::new(blank);
     let mut bridges = three_rows(rt, alloc, &mut steps);
     expect_failures(rt, &bridges, &mut steps);
+    expect_refusals(rt, alloc, &mut steps);
     expect_present(rt, &bridges, &mut steps);
     expect_copy(rt, &mut bridges, &mut steps);
 }

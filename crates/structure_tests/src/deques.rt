@@ -8,11 +8,11 @@ use retro_deque::RetroDeque;
 use std::process::Abort;
 
 fn expect_past(rt: &impl Abort, deque: &mut History<RetroDeque>) {
-    assert_eq!(rt; deque.len(), 3);
+    assert!(rt; deque.len() == 3);
     expect_values(rt, &deque.all(rt, 3), &[2]);
     expect_values(rt, &deque.all(rt, 2), &[2, 1]);
     let right = deque.ask(rt, 2, Question::Right);
-    assert_eq!(rt; right, Answer::Number { value: 1 });
+    assert!(rt; right == Answer::Number { value: 1 });
 }
 
 #[test]

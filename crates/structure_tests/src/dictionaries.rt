@@ -3,7 +3,7 @@
 use super::history::History;
 use lifetime_segments::Segments;
 use retro_base::{Answer, Item, Op, Question};
-use retro_dictionary::{Found, KeyPair, KeyRange, PairQuery, PairSearch, RetroDictionary, Sought};
+use retro_dictionary::{Found, KeyPair, KeyRange, PairSearch, RetroDictionary};
 use std::alloc::Global;
 use std::process::Abort;
 
@@ -219,21 +219,8 @@ fn found(count: u32, sum: i128, least: Option<KeyPair>, greatest: Option<KeyPair
 
 /// What is found of the pairs that are there at a label.
 fn found_at(rt: &impl Abort, segments: &Segments<PairSearch>, label: u64) -> Found {
-    asked(rt, segments, label, (0, 9), Sought::All)
-}
-
-/// The same where this is looked for, among the keys from one to another.
-fn asked(
-    rt: &impl Abort,
-    segments: &Segments<PairSearch>,
-    label: u64,
-    keys: (i64, i64),
-    sought: Sought,
-) -> Found {
     assert!(rt; label < 1 << 40);
-    let (low, high) = keys;
-    let range = KeyRange { low, high };
-    segments.ask(label, PairQuery { range, sought })
+    segments.ask(label, KeyRange { low: 0, high: 9 })
 }
 
 fn expect_both(rt: &impl Abort, segments: &Segments<PairSearch>) {
@@ -266,14 +253,8 @@ fn pairs_are_found_by_their_lifetimes(rt: HostRuntime) {
         (3, 9, false, false),
         (2, 1, false, false),
     ] {
-        let (keys, all) = ((low, high), wanted(first, second));
-        let (least, greatest) = (
-            found(0, 0, all.least, None),
-            found(0, 0, None, all.greatest),
-        );
-        assert_eq!(rt; asked(&rt, &segments, 5, keys, Sought::All), all);
-        assert_eq!(rt; asked(&rt, &segments, 5, keys, Sought::Least), least);
-        assert_eq!(rt; asked(&rt, &segments, 5, keys, Sought::Greatest), greatest);
+        let range = KeyRange { low, high };
+        assert_eq!(rt; segments.ask(5, range), wanted(first, second));
     }
     assert!(rt; segments.take(2, 8, FIRST));
     assert!(rt; !segments.take(2, 8, FIRST));

@@ -26,22 +26,22 @@ fn fused(alloc: Global) -> Engines {
 }
 
 fn perform_first(rt: &impl Abort, history: &mut Engines, first: First) {
-    assert_eq!(rt; history.structure().kind(), first.kind);
+    assert!(rt; history.structure().kind() == first.kind);
     history.put(rt, 0, 5, first.op);
     let seven = Answer::Number { value: 7 };
-    assert_eq!(rt; history.ask_now(rt, first.question), seven);
-    assert_eq!(rt; history.ask(rt, 0, first.question), Answer::Nothing);
+    assert!(rt; history.ask_now(rt, first.question) == seven);
+    assert!(rt; history.ask(rt, 0, first.question) == Answer::Nothing);
 }
 
 fn expect_item(rt: &impl Abort, history: &mut Engines, item: Item) {
     let listing = history.all(rt, 1);
-    assert_eq!(rt; listing.len(), 1);
-    assert_eq!(rt; listing.item(0), item);
+    assert!(rt; listing.len() == 1);
+    assert!(rt; listing.item(0) == item);
 }
 
 fn cut_first(rt: &impl Abort, history: &mut Engines, op: Op) {
     let (taken, _) = history.cut(rt, 0);
-    assert_eq!(rt; (taken.number, taken.time, taken.op), (1, 5, op));
+    assert!(rt; (taken.number, taken.time, taken.op) == (1, 5, op));
 }
 
 /// The one place where an engine is dropped, which is dear to prove.

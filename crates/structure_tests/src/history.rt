@@ -68,7 +68,7 @@ impl<R: Retro + Drop> History<R> {
         assert!(rt; self.structure.len() < MAX_ROWS && number < MAX_NEXT);
         assert!(rt; place <= self.structure.len());
         assert!(rt; op.kind() == self.structure.kind());
-        assert_eq!(rt; self.structure.failure_after_insert(place, op), None);
+        assert!(rt; self.structure.failure_after_insert(place, op) == None);
         let row = Row { number, time, op };
         let change = self.structure.insert(place, row)?;
         self.next = number + 1;
@@ -83,7 +83,7 @@ impl<R: Retro + Drop> History<R> {
     /// Takes a row out without which the others can be performed.
     pub(crate) fn cut(&mut self, rt: &impl Abort, place: u32) -> (Row, Change) {
         assert!(rt; place < self.structure.len());
-        assert_eq!(rt; self.structure.failure_after_remove(place), None);
+        assert!(rt; self.structure.failure_after_remove(place) == None);
         self.structure.remove(place).expect(rt, "memory")
     }
 

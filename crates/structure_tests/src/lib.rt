@@ -2,8 +2,8 @@
 //! crates anew.
 //!
 //! One file for each crate: `queues`, `stacks`, `deques` and `dictionaries` of the four fully retroactive structures, `bridges`
-//! of `bridge_pq`, `fusions` of `pq_fusion`, `checkpoints` of `checkpoint_full` over the first, and `engines` of `engine`. Most are
-//! tested through one `history`, which numbers the rows; `lines` and `listings` have what several files look at. Long histories
+//! of `bridge_pq`, `fusions` of `pq_fusion`, `checkpoints` of `checkpoint_full` over the first, `engines` of `engine`, and `plain_lists`
+//! of the plain list of `retro_base`. Most are tested through one `history`, which numbers the rows; `lines` and `listings` have what several files look at. Long histories
 //! and drawn ones are tried on the built program (`tests/limits.py`, `tests/drawn.py`).
 #![tactic(auto)]
 
@@ -25,6 +25,8 @@ mod history;
 mod lines;
 #[cfg(test)]
 mod listings;
+#[cfg(test)]
+mod plain_lists;
 #[cfg(test)]
 mod queues;
 #[cfg(test)]

@@ -21,10 +21,10 @@ pub(crate) fn expect_copy<R: Retro + Partial + Drop>(
     last: Last<'_>,
 ) {
     let copy = Partial::copy(history.structure()).expect(rt, "memory");
-    assert_eq!(rt; Partial::len(history.structure()), history.len());
+    assert!(rt; Partial::len(history.structure()) == history.len());
     let (taken, _) = history.cut(rt, last.place);
-    assert_eq!(rt; taken, last.row);
-    assert_eq!(rt; Partial::len(history.structure()), last.place);
+    assert!(rt; taken == last.row);
+    assert!(rt; Partial::len(history.structure()) == last.place);
     let present = Partial::all_now(history.structure()).expect(rt, "memory");
     expect_values(rt, &present, last.without);
     let copied = Partial::all_now(&copy).expect(rt, "memory");

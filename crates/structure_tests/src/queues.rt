@@ -8,11 +8,11 @@ use retro_queue::RetroQueue;
 use std::process::Abort;
 
 fn expect_past(rt: &impl Abort, queue: &mut History<RetroQueue>) {
-    assert_eq!(rt; queue.len(), 3);
+    assert!(rt; queue.len() == 3);
     expect_values(rt, &queue.all(rt, 3), &[3, 1, 2]);
     expect_values(rt, &queue.all(rt, 1), &[3]);
     let size = queue.ask(rt, 2, Question::Size);
-    assert_eq!(rt; size, Answer::Number { value: 2 });
+    assert!(rt; size == Answer::Number { value: 2 });
 }
 
 #[test]

@@ -8,14 +8,14 @@ use retro_stack::RetroStack;
 use std::process::Abort;
 
 fn expect_past(rt: &impl Abort, stack: &mut History<RetroStack>) {
-    assert_eq!(rt; stack.len(), 3);
+    assert!(rt; stack.len() == 3);
     expect_values(rt, &stack.all(rt, 3), &[3, 2, 1]);
     for (place, question, answer) in [
         (2, Question::Top, Answer::Number { value: 2 }),
         (3, Question::Nth { index: 2 }, Answer::Number { value: 1 }),
         (3, Question::Nth { index: 3 }, Answer::Nothing),
     ] {
-        assert_eq!(rt; stack.ask(rt, place, question), answer);
+        assert!(rt; stack.ask(rt, place, question) == answer);
     }
 }
 

@@ -15,7 +15,7 @@ use order_timeline::Timeline;
 use retro_base::{Change, NoMemory, Retro, Row};
 
 /// Where a step met out of memory.
-#[derive(Clone, Copy, Debug, PartialEq, Eq)]
+#[derive(Clone, Copy)]
 pub(crate) enum Interrupted {
     /// In its first edit: nothing was edited.
     AtOnce,

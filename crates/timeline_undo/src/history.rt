@@ -9,14 +9,14 @@ use circular_buffer::HeapCircularBuffer;
 use retro_base::Row;
 
 /// An edit, as the rings keep it: a row was put in at a place, or the row of a place was taken out.
-#[derive(Clone, Copy, Debug, PartialEq, Eq)]
+#[derive(Clone, Copy)]
 pub(crate) enum HistoryEdit {
     Added { place: u32, row: Row },
     Taken { place: u32, row: Row },
 }
 
 /// A step, as the rings keep it: an edit, or the two of a shift in the order in which they were made.
-#[derive(Clone, Copy, Debug, PartialEq, Eq)]
+#[derive(Clone, Copy)]
 pub(crate) enum HistoryStep {
     Single {
         edit: HistoryEdit,

@@ -298,7 +298,8 @@ impl<R: Retro + Drop> Session<R> {
         self.structure.ask_now(question)
     }
 
-    /// The answer to a question about a place. The session is unchanged, whatever the answer.
+    /// The answer to a question about a place. The session is unchanged, whatever the answer. Behind the last row it is a question
+    /// about the present.
     pub fn ask(&mut self, place: u32, question: Question) -> Result<Answer, NoMemory>
         requires unspent { self.old.spent ≡ false }
         requires within { place ≤ length self.old.rows }
@@ -306,16 +307,22 @@ impl<R: Retro + Drop> Session<R> {
         ensures unchanged { self.new ≡ self.old }
         ensures answer { IfOk result (λ answer. answer ≡ answer_of (state_at self.old.kind self.old.rows place) question) }
     {
+        if place == self.timeline.len() {
+            return Ok(self.structure.ask_now(question));
+        }
         self.structure.ask(place, question)
     }
 
-    /// The whole content at a place. The session is unchanged, whatever the answer.
+    /// The whole content at a place. The session is unchanged, whatever the answer. Behind the last row it is that of the present.
     pub fn all(&mut self, place: u32) -> Result<Listing, NoMemory>
         requires unspent { self.old.spent ≡ false }
         requires within { place ≤ length self.old.rows }
         ensures unchanged { self.new ≡ self.old }
         ensures content { IfOk result (λ listing. listing ≡ content (state_at self.old.kind self.old.rows place)) }
     {
+        if place == self.timeline.len() {
+            return self.structure.list_now();
+        }
         self.structure.all(place)
     }
 }

@@ -4,7 +4,7 @@ use crate::Turn;
 use retro_base::Op;
 
 /// What a row is replaced by in one step.
-#[derive(Clone, Copy, Debug, PartialEq, Eq)]
+#[derive(Clone, Copy)]
 pub enum Target {
     /// Its operation at another time, after all other rows up to that time.
     At { time: u64 },
@@ -13,7 +13,7 @@ pub enum Target {
 }
 
 /// What an accepted shift tells.
-#[derive(Clone, Copy, Debug, PartialEq, Eq)]
+#[derive(Clone, Copy, PartialEq, Eq)]
 pub struct Shift {
     /// The number that the new row has drawn.
     pub number: u32,

@@ -3,7 +3,7 @@
 use retro_base::{Change, Row};
 
 /// What an accepted insert tells.
-#[derive(Clone, Copy, Debug, PartialEq, Eq)]
+#[derive(Clone, Copy)]
 pub struct Put {
     /// The number that the row has drawn.
     pub number: u32,
@@ -12,7 +12,7 @@ pub struct Put {
 }
 
 /// A list edit that was made.
-#[derive(Clone, Copy, Debug, PartialEq, Eq)]
+#[derive(Clone, Copy, PartialEq, Eq)]
 pub struct Turn {
     /// Whether the row was put in; else it was taken out.
     pub added: bool,
@@ -25,7 +25,7 @@ pub struct Turn {
 }
 
 /// The list edits that an undo or a redo has made, in order.
-#[derive(Clone, Copy, Debug, PartialEq, Eq)]
+#[derive(Clone, Copy, PartialEq, Eq)]
 pub enum Turns {
     /// Of an insert or a delete.
     Single { turn: Turn },

@@ -73,14 +73,13 @@ total_laws = record {
   right_unit = λ xs query lawful. same_totals (length xs + 0) (length xs) (min (total_of xs + 0) greatest) (total_of xs) (omega arith) (omega (arith, total-few xs));
 }
 
--- it asks of all amounts, so none is below its range or above it, and no answer is settled
-pub total_range_laws : {Q : Type 0} → RangeLaws nat_lt (totals {Q = Q}) (λ query x. false) (λ query x. false) (λ query part. false)
+-- it asks of all amounts, so none is below its range or above it
+pub total_range_laws : {Q : Type 0} → RangeLaws nat_lt (totals {Q = Q}) (λ query x. false) (λ query x. false)
 total_range_laws {Q = Q} = record {
   below_downward = λ query x y after never. never;
   above_upward = λ query x y after never. never;
   of_below = none_outside;
   of_above = none_outside;
-  of_settled = λ xs ys query settled. absurd (let never : false ≡ true = settled in cc);
 } where
   none_outside : (xs : List ℕ) (query : Q) → AllByRecursion (λ (x : ℕ). false ≡ true) xs → totals xs query ≡ totals [] query
   none_outside [] query all = refl

@@ -116,8 +116,6 @@ impl RangeSearch for Totals {
 
     ghost above = { λ query amount. false };
 
-    ghost settled = { λ query part. false };
-
     ghost range_laws = { total_range_laws };
 
     fn is_below(_item: &Amount, _query: ()) -> bool {
@@ -125,10 +123,6 @@ impl RangeSearch for Totals {
     }
 
     fn is_above(_item: &Amount, _query: ()) -> bool {
-        false
-    }
-
-    fn is_settled(_part: &Total, _query: ()) -> bool {
         false
     }
 

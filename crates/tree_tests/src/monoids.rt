@@ -7,8 +7,8 @@ fn sums_are_exact(rt: HostRuntime) {
     let sum = Sum::single(i64::MIN)
         .join(Sum::single(i64::MIN))
         .join(Sum::single(7));
-    assert_eq!(rt; sum.sum(), -18446744073709551609);
-    assert_eq!(rt; sum.items(), 3);
+    assert!(rt; sum.sum() == -18446744073709551609);
+    assert!(rt; sum.items() == 3);
 }
 
 // The prefixes of 1, -1, -1, 0, 1 have the sums 0, 1, 0, -1, -1, 0.
@@ -26,13 +26,10 @@ fn prefixes_count_the_empty_one(rt: HostRuntime) {
         GreatestPrefix::single(-1),
     );
     let greatest = up.join(down).join(down).join(level).join(up);
-    assert_eq!(rt; (least.sum(), least.least(), least.items()), (0, -1, 5));
-    assert_eq!(rt;
-        (greatest.sum(), greatest.greatest(), greatest.items()),
-        (0, 1, 5)
-    );
-    assert_eq!(rt; LeastPrefix::single(1).least(), 0);
-    assert_eq!(rt; GreatestPrefix::single(-1).greatest(), 0);
+    assert!(rt; (least.sum(), least.least(), least.items()) == (0, -1, 5));
+    assert!(rt; (greatest.sum(), greatest.greatest(), greatest.items()) == (0, 1, 5));
+    assert!(rt; LeastPrefix::single(1).least() == 0);
+    assert!(rt; GreatestPrefix::single(-1).greatest() == 0);
 }
 
 // Of none, 4, 9, none, 9, 4.
@@ -55,9 +52,9 @@ fn extremes_are_the_first_of_equal_ones(rt: HostRuntime) {
         .join(absent)
         .join(nine)
         .join(four);
-    assert_eq!(rt; (greatest.element(), greatest.offset()), (Some(9), Some(2)));
-    assert_eq!(rt; (least.element(), least.offset()), (Some(4), Some(1)));
-    assert_eq!(rt; (none.element(), none.offset()), (None, None));
+    assert!(rt; (greatest.element(), greatest.offset()) == (Some(9), Some(2)));
+    assert!(rt; (least.element(), least.offset()) == (Some(4), Some(1)));
+    assert!(rt; (none.element(), none.offset()) == (None, None));
 }
 
 #[test]
@@ -66,10 +63,7 @@ fn both_join_side_by_side(rt: HostRuntime) {
         Count::single(),
         Sum::single(-7),
     ));
-    assert_eq!(rt;
-        (both.items(), both.first().items(), both.second().sum()),
-        (2, 2, -2)
-    );
+    assert!(rt; (both.items(), both.first().items(), both.second().sum()) == (2, 2, -2));
     let unit: Both<Count, Sum> = Both::unit();
-    assert_eq!(rt; (unit.items(), unit.second().sum()), (0, 0));
+    assert!(rt; (unit.items(), unit.second().sum()) == (0, 0));
 }

@@ -38,10 +38,10 @@ fn four_rows<L: Ledger>(rt: &impl Abort, alloc: Global, steps: &mut Steps<L>) ->
 }
 
 fn expect_sizes<L: Ledger>(rt: &impl Abort, rows: &LineRows, sizes: &[i64], steps: &mut Steps<L>) {
-    assert_eq!(rt; rows.len() as usize + 1, sizes.len());
+    assert!(rt; rows.len() as usize + 1 == sizes.len());
     for (place, size) in sizes.iter().enumerate() {
         assert!(rt; place <= rows.len() as usize);
-        assert_eq!(rt; rows.size_at(place as u32, steps), *size);
+        assert!(rt; rows.size_at(place as u32, steps) == *size);
     }
 }
 
@@ -55,15 +55,15 @@ fn expect_last<L: Ledger>(rt: &impl Abort, rows: &LineRows, steps: &mut Steps<L>
         (End::Right, 3, 0, Some(3)),
     ] {
         assert!(rt; to <= 4 && rows.len() == 4);
-        assert_eq!(rt; rows.last_growing(end, to, count, steps), place);
+        assert!(rt; rows.last_growing(end, to, count, steps) == place);
     }
 }
 
 /// A copy keeps its rows, whatever is taken out of the others.
 fn expect_copy<L: Ledger>(rt: &impl Abort, rows: &mut LineRows, steps: &mut Steps<L>) {
     let copy = rows.copy(steps).expect(rt, "memory");
-    assert_eq!(rt; rows.len(), 4);
-    assert_eq!(rt; rows.remove(2, steps), row(2, Op::PopR));
+    assert!(rt; rows.len() == 4);
+    assert!(rt; rows.remove(2, steps) == row(2, Op::PopR));
     expect_sizes(rt, rows, &[0, 1, 2, 3], steps);
     expect_sizes(rt, &copy, &[0, 1, 2, 1, 2], steps);
 }
@@ -103,36 +103,36 @@ fn four_signs<L: Ledger>(rt: &impl Abort, alloc: Global, steps: &mut Steps<L>) -
 }
 
 fn expect_sums<L: Ledger>(rt: &impl Abort, tree: &SignTree, sums: &[i64], steps: &mut Steps<L>) {
-    assert_eq!(rt; tree.len() as usize + 1, sums.len());
+    assert!(rt; tree.len() as usize + 1 == sums.len());
     for (place, sum) in sums.iter().enumerate() {
         assert!(rt; place <= tree.len() as usize);
-        assert_eq!(rt; tree.prefix(place as u32, steps), *sum);
+        assert!(rt; tree.prefix(place as u32, steps) == *sum);
     }
 }
 
 fn expect_first_sum<L: Ledger>(rt: &impl Abort, tree: &SignTree, steps: &mut Steps<L>) {
     for (from, sum, place) in [(1, 1, Some(1)), (0, -1, None)] {
         assert!(rt; from <= 4 && tree.len() == 4);
-        assert_eq!(rt; tree.first_at_most(from, 4, sum, steps), place);
+        assert!(rt; tree.first_at_most(from, 4, sum, steps) == place);
     }
 }
 
 fn expect_last_sum<L: Ledger>(rt: &impl Abort, tree: &SignTree, steps: &mut Steps<L>) {
-    assert_eq!(rt; tree.len(), 4);
-    assert_eq!(rt; tree.last_at_most(0, 3, 1, steps), Some(3));
+    assert!(rt; tree.len() == 4);
+    assert!(rt; tree.last_at_most(0, 3, 1, steps) == Some(3));
 }
 
 fn expect_marked<L: Ledger>(rt: &impl Abort, tree: &SignTree, steps: &mut Steps<L>) {
     for (index, place) in [(2, Some(3)), (3, None)] {
-        assert_eq!(rt; tree.kth_marked(index, steps), place);
+        assert!(rt; tree.kth_marked(index, steps) == place);
     }
 }
 
 /// A copy keeps its signs, whatever is taken out of the tree.
 fn expect_copied_signs<L: Ledger>(rt: &impl Abort, tree: &mut SignTree, steps: &mut Steps<L>) {
     let copy = tree.copy(steps).expect(rt, "memory");
-    assert_eq!(rt; tree.len(), 4);
-    assert_eq!(rt; tree.remove(2, steps), (-1, false));
+    assert!(rt; tree.len() == 4);
+    assert!(rt; tree.remove(2, steps) == (-1, false));
     expect_sums(rt, tree, &[0, 1, 2, 3], steps);
     expect_sums(rt, &copy, &[0, 1, 2, 1, 2], steps);
 }

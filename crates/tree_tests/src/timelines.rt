@@ -26,22 +26,22 @@ fn two_rows(rt: &impl Abort, alloc: Global) -> Timeline {
 }
 
 fn expect_rows(rt: &impl Abort, timeline: &Timeline, rows: &[Row]) {
-    assert_eq!(rt; timeline.len() as usize, rows.len());
+    assert!(rt; timeline.len() as usize == rows.len());
     for (place, row) in rows.iter().enumerate() {
         assert!(rt; place < timeline.len() as usize);
-        assert_eq!(rt; timeline.row_at(place as u32), *row);
+        assert!(rt; timeline.row_at(place as u32) == *row);
     }
 }
 
 fn expect_times(rt: &impl Abort, timeline: &Timeline) {
     for (time, place) in [(0, 0), (9, 0), (10, 2), (u64::MAX, 2)] {
-        assert_eq!(rt; timeline.place_at(time), place);
+        assert!(rt; timeline.place_at(time) == place);
     }
 }
 
 fn expect_numbers(rt: &impl Abort, timeline: &Timeline, numbers: &[(u32, Option<u32>)]) {
     for (number, place) in numbers {
-        assert_eq!(rt; timeline.place_of(*number), *place);
+        assert!(rt; timeline.place_of(*number) == *place);
     }
 }
 
@@ -53,8 +53,8 @@ fn expect_copies(rt: &impl Abort, timeline: &Timeline) {
     ] {
         assert!(rt; from <= timeline.len());
         let mut rows = [SECOND; 2];
-        assert_eq!(rt; timeline.read_rows(from, &mut rows), count);
-        assert_eq!(rt; rows, copies);
+        assert!(rt; timeline.read_rows(from, &mut rows) == count);
+        assert!(rt; rows == copies);
     }
 }
 
@@ -71,7 +71,7 @@ fn rows_are_found_by_place_time_and_number(rt: HostRuntime) {
     let numbers = [(0, None), (1, Some(0)), (2, Some(1)), (7, None)];
     expect_numbers(&rt, &timeline, &numbers);
     expect_copies(&rt, &timeline);
-    assert_eq!(rt; cut_first(&rt, &mut timeline), FIRST);
+    assert!(rt; cut_first(&rt, &mut timeline) == FIRST);
     expect_rows(&rt, &timeline, &[SECOND]);
     expect_numbers(&rt, &timeline, &[(1, None), (2, Some(0))]);
 }

@@ -41,10 +41,10 @@ fn five_and_seven<L: Ledger>(rt: &impl Abort, alloc: Global, steps: &mut Steps<L
     let mut tree = Tree::new(alloc);
     tree.insert(0, Amount { value: 5 }, steps)
         .expect(rt, "memory");
-    assert_eq!(rt; tree.len(), 1);
+    assert!(rt; tree.len() == 1);
     tree.insert(1, Amount { value: 7 }, steps)
         .expect(rt, "memory");
-    assert_eq!(rt; tree.len(), 2);
+    assert!(rt; tree.len() == 2);
     tree.insert(1, Amount { value: -2 }, steps)
         .expect(rt, "memory");
     tree
@@ -69,18 +69,18 @@ fn searches<L: Ledger>(tree: &Tree<Amount>, steps: &mut Steps<L>) -> [Option<u32
 }
 
 fn expect_items<L: Ledger>(rt: &impl Abort, tree: &Tree<Amount>, steps: &mut Steps<L>) {
-    assert_eq!(rt; tree.len(), 3);
-    assert_eq!(rt; items(tree, steps), [5, -2, 7]);
+    assert!(rt; tree.len() == 3);
+    assert!(rt; items(tree, steps) == [5, -2, 7]);
 }
 
 fn expect_searches<L: Ledger>(rt: &impl Abort, tree: &Tree<Amount>, steps: &mut Steps<L>) {
-    assert_eq!(rt; tree.len(), 3);
-    assert_eq!(rt; searches(tree, steps), [Some(2), Some(1), None]);
+    assert!(rt; tree.len() == 3);
+    assert!(rt; searches(tree, steps) == [Some(2), Some(1), None]);
 }
 
 fn expect_measure<L: Ledger>(rt: &impl Abort, tree: &Tree<Amount>, steps: &mut Steps<L>) {
-    assert_eq!(rt; tree.len(), 3);
-    assert_eq!(rt; tree.measure(0, 2, steps).sum(), 3);
+    assert!(rt; tree.len() == 3);
+    assert!(rt; tree.measure(0, 2, steps).sum() == 3);
 }
 
 /// What a read from a place on writes over four nines, of which it may write the first `room`, and how many it says.
@@ -112,18 +112,18 @@ fn reads<L: Ledger>(rt: &impl Abort, tree: &Tree<Amount>, steps: &mut Steps<L>) 
         (3, 4, (0, [9, 9, 9, 9])),
         (0, 0, (0, [9, 9, 9, 9])),
     ] {
-        assert_eq!(rt; read_over_nines(rt, tree, from, room, steps), read);
+        assert!(rt; read_over_nines(rt, tree, from, room, steps) == read);
     }
 }
 
 fn edited<L: Ledger>(rt: &impl Abort, tree: &mut Tree<Amount>, steps: &mut Steps<L>) {
-    assert_eq!(rt; tree.len(), 3);
-    assert_eq!(rt; tree.remove(1, steps).value, -2);
-    assert_eq!(rt; tree.len(), 2);
-    assert_eq!(rt; tree.replace(0, Amount { value: 6 }, steps).value, 5);
-    assert_eq!(rt; tree.len(), 2);
-    assert_eq!(rt; tree.get(0, steps).value, 6);
-    assert_eq!(rt; tree.get(1, steps).value, 7);
+    assert!(rt; tree.len() == 3);
+    assert!(rt; tree.remove(1, steps).value == -2);
+    assert!(rt; tree.len() == 2);
+    assert!(rt; tree.replace(0, Amount { value: 6 }, steps).value == 5);
+    assert!(rt; tree.len() == 2);
+    assert!(rt; tree.get(0, steps).value == 6);
+    assert!(rt; tree.get(1, steps).value == 7);
 }
 
 fn answers<L: Ledger>(rt: &impl Abort, alloc: Global, blank: Blank)
@@ -185,7 +185,7 @@ fn count_below<L: Ledger>(tree: &Tree<Piece>, limit: u32, steps: &mut Steps<L>) 
 // The prefixes of 3, 0, 4 have the sums 0, 3, 3, 7.
 fn three_pieces<L: Ledger>(rt: &impl Abort, alloc: Global, steps: &mut Steps<L>) -> Tree<Piece> {
     let mut tree = Tree::new(alloc);
-    assert_eq!(rt; count_below(&tree, 9, steps), 0);
+    assert!(rt; count_below(&tree, 9, steps) == 0);
     for size in [4, 0, 3] {
         if tree.len() < 3 {
             tree.insert(0, Piece { size }, steps).expect(rt, "memory");
@@ -200,7 +200,7 @@ fn reaching<L: Ledger>(rt: &impl Abort, alloc: Global, blank: Blank)
     let mut steps = Steps::<L>::new(blank);
     let tree = three_pieces(rt, alloc, &mut steps);
     for (goal, pieces) in [(0, Some(0)), (3, Some(1)), (4, Some(3)), (8, None)] {
-        assert_eq!(rt; first_reaching(&tree, goal, &mut steps), pieces);
+        assert!(rt; first_reaching(&tree, goal, &mut steps) == pieces);
     }
 }
 
@@ -248,11 +248,11 @@ fn first_three<L: Ledger>(rt: &impl Abort, tree: &Tree<Amount>, steps: &mut Step
 /// One more amount comes in, and a copy keeps what it has.
 fn expect_copy<L: Ledger>(rt: &impl Abort, tree: &mut Tree<Amount>, steps: &mut Steps<L>) {
     let copy = tree.copy(steps).expect(rt, "memory");
-    assert_eq!(rt; tree.len(), 2000);
+    assert!(rt; tree.len() == 2000);
     insert_first(rt, tree, 7, steps);
-    assert_eq!(rt; (copy.len(), tree.len()), (2000, 2001));
-    assert_eq!(rt; first_three(rt, tree, steps), 4004);
-    assert_eq!(rt; first_three(rt, &copy, steps), 5994);
+    assert!(rt; (copy.len(), tree.len()) == (2000, 2001));
+    assert!(rt; first_three(rt, tree, steps) == 4004);
+    assert!(rt; first_three(rt, &copy, steps) == 5994);
 }
 
 fn two_thousand<L: Ledger>(rt: &impl Abort, alloc: Global, blank: Blank)
@@ -261,7 +261,7 @@ fn two_thousand<L: Ledger>(rt: &impl Abort, alloc: Global, blank: Blank)
     let mut steps = Steps::<L>::new(blank);
     let mut tree = Tree::new(alloc);
     fill(rt, &mut tree, &mut steps);
-    assert_eq!(rt; count_large(&tree, &mut steps), 500);
+    assert!(rt; count_large(&tree, &mut steps) == 500);
     expect_copy(rt, &mut tree, &mut steps);
 }
 
@@ -298,12 +298,12 @@ fn edit_both<L: Ledger>(
         Edit::Remove(place) => {
             assert!(rt; place < tree.len() && (place as usize) < list.len());
             let old = list.remove(place as usize);
-            assert_eq!(rt; tree.remove(place, steps).value, old);
+            assert!(rt; tree.remove(place, steps).value == old);
         }
         Edit::Replace(place) => {
             assert!(rt; place < tree.len() && (place as usize) < list.len());
             let old = tree.replace(place, Amount { value }, steps).value;
-            assert_eq!(rt; old, list[place as usize]);
+            assert!(rt; old == list[place as usize]);
             list[place as usize] = value;
         }
     }
@@ -323,7 +323,7 @@ fn expect_read<L: Ledger>(
     let (_, rest) = list.split_at(from as usize);
     assert!(rt; count <= rest.len() && count <= 40);
     assert!(rt; count == rest.len() || count == 40);
-    assert_eq!(rt; &read[..count], &rest[..count]);
+    assert!(rt; &read[..count] == &rest[..count]);
 }
 
 /// The sums before a place and from it on, and the searches for it, where all amounts are positive.
@@ -336,11 +336,11 @@ fn expect_place<L: Ledger>(
 ) {
     assert!(rt; place <= tree.len());
     let after = tree.measure(place, tree.len(), steps).sum();
-    assert_eq!(rt; tree.measure(0, place, steps).sum(), before);
+    assert!(rt; tree.measure(0, place, steps).sum() == before);
     let first = tree.first_place(0, |sum: &Sum| before <= sum.sum(), steps);
-    assert_eq!(rt; first, Some(place));
+    assert!(rt; first == Some(place));
     let last = tree.last_place(tree.len(), |sum: &Sum| after <= sum.sum(), steps);
-    assert_eq!(rt; last, Some(place));
+    assert!(rt; last == Some(place));
 }
 
 /// The tree is the vector.
@@ -350,12 +350,12 @@ fn expect_list<L: Ledger>(
     list: &[i64],
     steps: &mut Steps<L>,
 ) {
-    assert_eq!(rt; tree.len() as usize, list.len());
+    assert!(rt; tree.len() as usize == list.len());
     let mut before = 0i128;
     for place in 0..tree.len() {
         assert!(rt; place < tree.len() && (place as usize) < list.len());
         let value = tree.get(place, steps).value;
-        assert_eq!(rt; value, list[place as usize]);
+        assert!(rt; value == list[place as usize]);
         expect_place(rt, tree, place, before, steps);
         expect_read(rt, tree, list, place, steps);
         before = before.wrapping_add(i128::from(value));

@@ -1,15 +1,13 @@
 -- A balanced tree has at most three levels for each digit of its weight.
 use Rattle.std.proofs.Common.{◌≡◌, ℕ, zero, suc, ◌+◌, ◌*◌, ◌^◌, ◌<◌, ◌≤◌, refl, subst, arith}
-use Rattle.std.specs.Prelude.{Result, Ok, Err, OnOk}
 use Rattle.std.proofs.lemmas.Nat.{pow-add}
-use Rattle.std.proofs.Math.Nat.{one-le-pow}
 use Rattle.weighted_tree.specs.Balance.{Part, weight}
 use Rattle.weighted_tree.specs.Nodes.{IsRoot}
 use Rattle.weighted_tree.specs.declared.subtree.Node.{Node}
 use Rattle.retro_base.specs.Digits.{digits}
 use Rattle.retro_base.specs.Visits.{VisitsWithin}
 use Rattle.retro_base.specs.VisitsLaws.{below-digits, digits-monotone}
-use Rattle.weighted_tree.specs.Levels.{IsWithinLevels, OneALevel, FourALevel, FourALevelOfBoth, AtLeastOneALevel}
+use Rattle.weighted_tree.specs.Levels.{IsWithinLevels, OneALevel, FourALevel, FourALevelOfBoth}
 use Rattle.weighted_tree.specs.SearchSteps.{VisitsOfSearch}
 use Rattle.weighted_tree.specs.declared.node.Side.{Side}
 use Rattle.weighted_tree.specs.declared.search.Search.{Search}
@@ -65,21 +63,6 @@ level_here : (whole start end : ℕ) → 2 ≤ whole → end ≤ start + 4 → F
 level_here whole start end some up zero within = absurd (omega arith)
 level_here whole start end some up (suc levels) within = omega arith
 
--- a level more of those that each path has, on whose way down one more is visited
-one_each_level_more : (whole side start visited middle end : ℕ) → 1 ≤ side → whole ≤ 4 * side → AtLeastOneALevel side visited middle → start + 1 + middle ≤ visited + end → AtLeastOneALevel whole start end
-one_each_level_more whole side start visited middle end some heavy below up zero within = omega (arith, below zero (omega arith))
-one_each_level_more whole side start visited middle end some heavy below up (suc levels) within = omega (arith, below levels (omega (arith, pow-add 4 levels 1)))
-
--- no node, and a node with one side at the most
-pub counted_none : (whole before after : ℕ) → whole ≤ 1 → before ≤ after → AtLeastOneALevel whole before after
-counted_none whole before after none none_lost zero within = omega arith
-counted_none whole before after none none_lost (suc levels) within = absurd (omega (arith, pow-add 4 levels 1, one-le-pow levels 4 (omega arith)))
-
-pub counted_one : (whole before after : ℕ) → whole ≤ 4 → before + 1 ≤ after → AtLeastOneALevel whole before after
-counted_one whole before after few one zero within = omega arith
-counted_one whole before after few one (suc zero) within = omega arith
-counted_one whole before after few one (suc (suc levels)) within = absurd (omega (arith, pow-add 4 levels 2, one-le-pow levels 4 (omega arith)))
-
 -- the left side is a level down, and the right one
 module _ {A M : Type 0} (part : Part A) (node : Node A M) (start visited middle end : ℕ) (root : IsRoot part node) where
   pub level_left : visited ≡ start + 1 → FourALevel (weight node.left) visited middle → end ≤ middle + 3 → FourALevel (weight part) start end
@@ -92,23 +75,9 @@ module _ {A M : Type 0} (part : Part A) (node : Node A M) (start visited middle 
       let whole = root.nodes_are in
       level_more (weight part) (weight node.right) start visited middle end visit (omega arith) (omega arith) below up
 
-  pub counted_left : AtLeastOneALevel (weight node.left) visited middle → start + 1 + middle ≤ visited + end → AtLeastOneALevel (weight part) start end
-  counted_left below up =
-      let whole = root.nodes_are in
-      one_each_level_more (weight part) (weight node.left) start visited middle end (omega arith) (omega (arith, root.balanced)) below up
-
-  pub counted_right : AtLeastOneALevel (weight node.right) visited middle → start + 1 + middle ≤ visited + end → AtLeastOneALevel (weight part) start end
-  counted_right below up =
-      let whole = root.nodes_are in
-      one_each_level_more (weight part) (weight node.right) start visited middle end (omega arith) (omega (arith, root.balanced)) below up
-
   -- the node alone
   pub level_end : visited ≡ start + 1 → end ≤ visited + 3 → FourALevel (weight part) start end
   level_end visit up = level_here (weight part) start end (omega (arith, root.nodes_are)) (omega arith)
-
--- where one side has no nodes, the whole weighs no more than this
-pub few_nodes : {A M : Type 0} {part : Part A} {node : Node A M} → IsRoot part node → node.right.nodes ≡ 0 → weight part ≤ 4
-few_nodes root none = omega (arith, root.nodes_are, root.balanced)
 
 -- one visit a level
 pub one_more : (whole side start visited end : ℕ) → visited ≡ start + 1 → 2 ≤ whole → 4 * side ≤ 3 * whole → OneALevel side visited end → OneALevel whole start end
@@ -173,8 +142,3 @@ once_more whole start visited end visit some below (suc levels) within = omega (
 pub leaf_search : {M : Type 0} (whole before after : ℕ) (answer : Search M) → after ≤ before + 1 → VisitsOfSearch whole before after answer
 leaf_search whole before after (Found count) few = λ levels within. omega arith
 leaf_search whole before after (Open measure) few = λ levels within. omega arith
-
--- what holds whatever is answered
-pub on_ok : {T E P : Type 0} (answer : Result T E) → P → OnOk answer P
-on_ok (Ok value) fact = fact
-on_ok (Err error) fact = tt

@@ -1,5 +1,5 @@
 -- How many nodes a call visits on the levels of a balanced tree.
-use Rattle.std.specs.Prelude.{ℕ, zero, suc, ◌+◌, ◌*◌, ◌^◌, ◌<◌, ◌≤◌}
+use Rattle.std.specs.Prelude.{ℕ, zero, suc, ◌+◌, ◌*◌, ◌≤◌}
 
 -- a balanced tree of this weight has no path of more levels: a side weighs at most 3 quarters of the whole
 abbrev pub IsWithinLevels : ℕ → ℕ → Type 0
@@ -17,7 +17,3 @@ FourALevelOfBoth near far before after = (near_levels far_levels : ℕ) → IsWi
 -- at most one visit a level, and one at the end of the way
 abbrev pub OneALevel : ℕ → ℕ → ℕ → Type 0
 OneALevel whole before after = (levels : ℕ) → IsWithinLevels whole levels → after ≤ before + levels + 1
-
--- at least one visit a level: a side weighs at least a quarter of the whole
-abbrev pub AtLeastOneALevel : ℕ → ℕ → ℕ → Type 0
-AtLeastOneALevel whole before after = (levels : ℕ) → 4 ^ levels < 4 * whole → before + levels ≤ after

@@ -2,7 +2,7 @@
 ghost use Rattle.std.specs.Prelude.{◌≡◌, ◌+◌, ◌^◌, ◌<◌, ◌≤◌, ◌++◌, ◌∷◌, length, slice_get, slice_set, Some, OnOk, OnErr};
 ghost use Rattle.std.specs.List.{insert, remove};
 ghost use Rattle.weighted_tree.specs.Balance.{weight, IsUpToOneMore};
-ghost use Rattle.weighted_tree.specs.Levels.{AtLeastOneALevel, FourALevel};
+ghost use Rattle.weighted_tree.specs.Levels.{FourALevel};
 ghost use Rattle.weighted_tree.specs.Nodes.{full};
 
 use crate::leaf::{FULL, divide};
@@ -33,7 +33,6 @@ impl<T: Measured> Subtree<T> {
         ensures none_lost { steps.old ≤ steps.new }
         ensures some { OnOk result (0 < length self.old.items → steps.old + 1 ≤ steps.new) }
         ensures none { OnErr result (length self.old.items ≡ 0 → steps.new ≡ steps.old) }
-        ensures counted { OnOk result (AtLeastOneALevel (weight self.old) steps.old steps.new) }
         ensures visits { FourALevel (weight self.old) steps.old steps.new }
     {
         let Link::Full {
@@ -194,7 +193,6 @@ impl<T: Measured> Subtree<T> {
         ensures shrinks { IsUpToOneMore self.new.nodes self.old.nodes }
         ensures few { self.old.nodes ≤ length self.old.items }
         ensures some { steps.old + 1 ≤ steps.new }
-        ensures counted { AtLeastOneALevel (weight self.old) steps.old steps.new }
         ensures visits { FourALevel (weight self.old) steps.old steps.new }
     {
         let Link::Full {

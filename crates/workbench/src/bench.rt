@@ -17,7 +17,7 @@ use std::marker::Model;
 use timeline_undo::Session;
 
 /// What a line is answered.
-#[derive(Debug, Drop)]
+#[derive(Drop)]
 pub struct Reply {
     /// The lines that answer it, each with its line feed.
     pub text: Text,

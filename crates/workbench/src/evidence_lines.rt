@@ -9,7 +9,7 @@ use std::alloc::Global;
 use std::marker::Model;
 
 /// The evidence of some edits, in their order, which contracts see as its list.
-#[derive(Debug, Drop)]
+#[derive(Drop)]
 pub struct EvidenceLines {
     lines: Vec<Evidence>,
 }

@@ -12,7 +12,7 @@ use script_grammar::{print_answer, print_listing};
 use timeline_file::{BlockError, RowCause, print_block};
 
 /// What a line is answered.
-#[derive(Debug, Drop)]
+#[derive(Drop)]
 pub enum Outcome {
     /// Nothing is answered.
     Silent,
@@ -60,7 +60,7 @@ pub enum Outcome {
 }
 
 /// Why a line was refused.
-#[derive(Clone, Copy, Debug, PartialEq, Eq)]
+#[derive(Clone, Copy)]
 pub enum Refusal {
     /// It has more bytes than a line may have.
     Long,

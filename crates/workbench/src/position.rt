@@ -8,7 +8,7 @@ use order_timeline::Timeline;
 use script_grammar::Spot;
 
 /// Where a row stands: at this place, and at this time.
-#[derive(Clone, Copy, Debug, PartialEq, Eq)]
+#[derive(Clone, Copy)]
 pub struct Position {
     pub place: u32,
     pub time: u64,

@@ -1,9 +1,8 @@
-use Rattle.std.proofs.Common.{rules, ◌∷◌, [], length, ◌*◌, ◌∙◌, ap, arith}
-use Rattle.std.proofs.lemmas.List.{length-append}
+use Rattle.std.proofs.Common.{rules, ◌*◌, ◌∙◌, ap, arith}
 use Rattle.checkpoint_full.specs.Checkpoints.{place_of}
 use Rattle.checkpoint_full.specs.Widths.{multiples_below}
 use Rattle.checkpoint_full.proofs.Between.{one_made}
-use Rattle.checkpoint_full.proofs.Made.{all_settled, no_more_were_made, none_to_come, one_is_left, to_come-first, to_come-next}
+use Rattle.checkpoint_full.proofs.Made.{all_settled, none_to_come, to_come-first, to_come-next}
 use Rattle.checkpoint_full.proofs.Thinned.{is_wide}
 use Rattle.checkpoint_full.proofs.checkpoints.make.Goals as goal
 
@@ -12,9 +11,8 @@ loop-latest-init g c = record {
   first = search rules;
   latest = search rules;
   close = search rules;
-  copied = search rules;
   to_come = to_come-first c.args.width (multiples_below c.args.width (place_of c.args.present.now)) c.first_made.result c.args.present.now c.in_ok-latest.latest c.new-checkpoints.result.items
-      c.new-checkpoints.ensures.items c.in_ok-latest.ensures.copy (omega (arith, c.first_made.ensures.within, c.place.ensures.place))
+      c.new-checkpoints.ensures.items c.in_ok-latest.ensures (omega (arith, c.first_made.ensures.within, c.place.ensures.place))
       (λ some. omega (arith, c.first_made.ensures.before some, c.place.ensures.place))
       (c.first_made.ensures.last ∙ ap (λ (rows : _). multiples_below c.args.width rows * c.args.width) c.place.ensures.place);
 }
@@ -23,17 +21,16 @@ pub loop-latest-preserved : goal.loop-latest-preserved
 loop-latest-preserved g c =
     let loop = c.loop-latest.invariant in
     let more = one_made c.args.width c.args.present.now c.loop-latest.checkpoints.items c.push.new.self.items c.loop-latest.latest c.in_ok-earlier.earlier c.saturating_sub.result
-    loop.first loop.latest loop.close c.in_ok-earlier.ensures.copy (omega (arith, c.saturating_sub.ensures, c.place-in-loop-latest-2.ensures.place))
+    loop.first loop.latest loop.close c.in_ok-earlier.ensures (omega (arith, c.saturating_sub.ensures, c.place-in-loop-latest-2.ensures.place))
     (omega (arith, c.saturating_sub.ensures, c.place-in-loop-latest-2.ensures.place)) c.in_ok-push.ensures.items in
     record {
       first = more.0;
       latest = more.1;
       close = more.2;
-      copied = omega (arith, loop.copied, c.in_ok-earlier.ensures.counted, ap (λ cs. length cs) c.in_ok-push.ensures.items, length-append c.loop-latest.checkpoints.items (c.loop-latest.latest ∷ []));
       to_come = to_come-next c.args.width (multiples_below c.args.width (place_of c.args.present.now)) (place_of c.args.present.now) c.saturating_sub.result c.loop-latest.checkpoints.items c.push.new.self.items
           c.loop-latest.latest c.in_ok-earlier.earlier loop.to_come
           (omega (arith, c.loop-latest-test.true, c.place-in-loop-latest.ensures.place))
-          c.in_ok-earlier.ensures.copy (omega (arith, c.saturating_sub.ensures, c.place-in-loop-latest-2.ensures.place)) c.in_ok-push.ensures.items;
+          c.in_ok-earlier.ensures (omega (arith, c.saturating_sub.ensures, c.place-in-loop-latest-2.ensures.place)) c.in_ok-push.ensures.items;
     }
 
 pub returns-clause-places : goal.returns-clause-places
@@ -46,33 +43,3 @@ pub returns-clause-settled : goal.returns-clause-settled
 returns-clause-settled g c =
     all_settled c.args.width (multiples_below c.args.width (place_of c.args.present.now)) c.args.present.now c.loop-latest.checkpoints.items c.push-2.new.self.items c.loop-latest.latest
     (is_wide _ c.requires.of_widths).0 c.requires.few c.loop-latest.invariant.to_come c.in_ok-push-2.ensures.items
-
-pub returns-in_err-earlier-clause-copies : goal.returns-in_err-earlier-clause-copies
-returns-in_err-earlier-clause-copies g c =
-    let left = one_is_left c.args.width (multiples_below c.args.width (place_of c.args.present.now)) (place_of c.args.present.now) c.loop-latest.checkpoints.items c.loop-latest.latest
-    c.loop-latest.invariant.to_come (omega (arith, c.loop-latest-test.true, c.place-in-loop-latest.ensures.place)) in
-    omega (arith, left, c.loop-latest.invariant.copied, c.in_err-earlier.ensures.counted)
-
-pub returns-in_err-push-clause-copies : goal.returns-in_err-push-clause-copies
-returns-in_err-push-clause-copies g c =
-    let left = one_is_left c.args.width (multiples_below c.args.width (place_of c.args.present.now)) (place_of c.args.present.now) c.loop-latest.checkpoints.items c.loop-latest.latest
-    c.loop-latest.invariant.to_come (omega (arith, c.loop-latest-test.true, c.place-in-loop-latest.ensures.place)) in
-    omega (arith, left, c.loop-latest.invariant.copied, c.in_ok-earlier.ensures.counted)
-
-pub returns-in_err-push-2-clause-copies : goal.returns-in_err-push-2-clause-copies
-returns-in_err-push-2-clause-copies g c =
-    omega (
-      arith,
-      no_more_were_made c.args.width (multiples_below c.args.width (place_of c.args.present.now)) (place_of c.args.present.now) c.loop-latest.checkpoints.items c.loop-latest.latest
-          c.loop-latest.invariant.to_come,
-      c.loop-latest.invariant.copied,
-    )
-
-pub returns-clause-copies : goal.returns-clause-copies
-returns-clause-copies g c =
-    omega (
-      arith,
-      no_more_were_made c.args.width (multiples_below c.args.width (place_of c.args.present.now)) (place_of c.args.present.now) c.loop-latest.checkpoints.items c.loop-latest.latest
-          c.loop-latest.invariant.to_come,
-      c.loop-latest.invariant.copied,
-    )

@@ -1,4 +1,4 @@
-use Rattle.std.proofs.Common.{◌≡◌, ◌+◌, ◌∷◌, ◌++◌, [], length, map}
+use Rattle.std.proofs.Common.{◌∷◌, ◌++◌, [], map}
 use Rattle.std.specs.List.{AllByRecursion}
 use Rattle.checkpoint_full.specs.Checkpoints.{place_of, HoldsFirstRows}
 use Rattle.checkpoint_full.specs.Widths.{multiples_below, AreClose}
@@ -10,7 +10,6 @@ invariant-loop-latest g l = record {
   first : AllByRecursion (HoldsFirstRows l.present) l.checkpoints.items;
   latest : HoldsFirstRows l.present l.latest;
   close : AreClose l.width (place_of l.present) (map place_of l.checkpoints.items ++ place_of l.latest ∷ []) (place_of l.latest);
-  copied : l.copies ≡ l.fn.copies + 1 + length l.checkpoints.items;
   to_come : AreToCome l.width (multiples_below l.width (place_of l.present)) (place_of l.present) l.checkpoints.items l.latest;
 }
 

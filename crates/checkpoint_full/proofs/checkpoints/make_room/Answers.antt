@@ -1,7 +1,7 @@
 use Rattle.std.proofs.Common.{◌∙◌, ap, position, refl, sym, arith}
 use Rattle.std.specs.List.{remove}
 use Rattle.retro_base.specs.EditedLists.{remove-insert}
-use Rattle.checkpoint_full.proofs.Between.{below_of, between_kept, later_holds, nearest_below, no_room_left, one_is_there, room_left, stands_between}
+use Rattle.checkpoint_full.proofs.Between.{below_of, between_kept, later_holds, nearest_below, one_is_there, room_left, stands_between}
 use Rattle.checkpoint_full.proofs.Places.{is_up_to, none_were_made}
 use Rattle.checkpoint_full.proofs.Rule.{room_is_made, room_was_there}
 use Rattle.checkpoint_full.proofs.checkpoints.make_room.Goals as goal
@@ -67,27 +67,6 @@ returns-clause-places g c =
     (omega (arith, c.place_between-at.ensures.within, c.place-2.ensures.place))
     (c.place_between-at.ensures.place ∙ rw (c.place-earlier.ensures.place, c.place-2.ensures.place) refl)
     c.in_ok-between.ensures.made c.in_ok-insert.ensures.items
-
-pub returns-in_err-between-clause-fits : goal.returns-in_err-between-clause-fits
-returns-in_err-between-clause-fits g c fits =
-    let near = no_room_left c.args.width c.args.present.now c.args.checkpoints.now.items c.args.place c.in-Some.index _ _
-    (stands_between c.args.present.now c.args.checkpoints.now.items _ _ _ c.args.place c.in-Some.index _ _ c.nearest.ensures c.as_slice.ensures.value c.in-Some.is
-    c.index.ensures c.neighbour_after-later.ensures c.as_slice-2.ensures.value) fits in
-    absurd (omega (arith, near, c.if-place-earlier.false, c.place.ensures.place, c.place-earlier.ensures.place))
-
-pub returns-in_err-insert-clause-fits : goal.returns-in_err-insert-clause-fits
-returns-in_err-insert-clause-fits g c fits =
-    let near = no_room_left c.args.width c.args.present.now c.args.checkpoints.now.items c.args.place c.in-Some.index _ _
-    (stands_between c.args.present.now c.args.checkpoints.now.items _ _ _ c.args.place c.in-Some.index _ _ c.nearest.ensures c.as_slice.ensures.value c.in-Some.is
-    c.index.ensures c.neighbour_after-later.ensures c.as_slice-2.ensures.value) fits in
-    absurd (omega (arith, near, c.if-place-earlier.false, c.place.ensures.place, c.place-earlier.ensures.place))
-
-pub returns-clause-fits : goal.returns-clause-fits
-returns-clause-fits g c fits =
-    let near = no_room_left c.args.width c.args.present.now c.args.checkpoints.now.items c.args.place c.in-Some.index _ _
-    (stands_between c.args.present.now c.args.checkpoints.now.items _ _ _ c.args.place c.in-Some.index _ _ c.nearest.ensures c.as_slice.ensures.value c.in-Some.is
-    c.index.ensures c.neighbour_after-later.ensures c.as_slice-2.ensures.value) fits in
-    absurd (omega (arith, near, c.if-place-earlier.false, c.place.ensures.place, c.place-earlier.ensures.place))
 
 pub stand_between-requires-clause-later : goal.stand_between-requires-clause-later
 stand_between-requires-clause-later g c =

@@ -1,5 +1,5 @@
 use Rattle.std.proofs.Common.{◌∙◌, sym}
-use Rattle.checkpoint_full.proofs.Places.{nearest_is, nearest_is_near, one_is_nearest}
+use Rattle.checkpoint_full.proofs.Places.{nearest_is_near, one_is_nearest}
 use Rattle.checkpoint_full.proofs.past.nearest_earlier.Goals as goal
 
 pub unwrap-requires : goal.unwrap-requires
@@ -10,7 +10,3 @@ pub returns-clause-near : goal.returns-clause-near
 returns-clause-near g c earlier there =
     nearest_is_near _ c.args.timeline.now c.args.checkpoints.now c.args.place _ earlier c.requires.checkpoints c.requires.within
     (sym c.nearest.ensures ∙ c.unwrap.ensures) there
-
-pub returns-clause-nearest : goal.returns-clause-nearest
-returns-clause-nearest g c earlier there =
-    nearest_is c.args.checkpoints.now c.args.place _ earlier (sym c.nearest.ensures ∙ c.unwrap.ensures) there

@@ -6,7 +6,7 @@ use Rattle.evidence_check.proofs.ChangesRead.{Laws, right}
 use Rattle.evidence_check.proofs.changes.change_cause.Goals as goal
 
 pub returns : goal.returns
-returns c =
+returns g c =
     let e = c.args.evidence.now in
     let laws : Laws = record {
       giving = c.one_entry_is_carried.ensures.giving;

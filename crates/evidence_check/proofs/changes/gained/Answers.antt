@@ -5,6 +5,6 @@ use Rattle.evidence_check.proofs.Reading.{gained_is}
 use Rattle.evidence_check.proofs.changes.gained.Goals as goal
 
 pub returns : goal.returns
-returns c =
+returns g c =
     ap (option_map (λ entry. Gain c.last_bridge-bridge.result entry)) (sym c.in_ok-entry.was)
     ∙ gained_is c.args.rows.now c.args.place c.last_bridge-bridge.result c.args.new c.dead_from.result c.later_of.result c.last_bridge-bridge.ensures.bridge c.dead_from.ensures c.later_of.ensures

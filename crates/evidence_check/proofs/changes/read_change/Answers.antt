@@ -3,7 +3,7 @@ use Rattle.evidence_check.proofs.ChangesRead.{Laws}
 use Rattle.evidence_check.proofs.changes.read_change.Goals as goal
 
 pub returns : goal.returns
-returns c =
+returns g c =
     let e = c.args.evidence.now in
     let laws : Laws = record {
       giving = c.one_entry_is_carried.ensures.giving;

@@ -4,7 +4,7 @@ use Rattle.evidence_check.proofs.Marking.{remove_rows}
 use Rattle.evidence_check.proofs.edits.take_out.Goals as goal
 
 pub returns-clause-numbers : goal.returns-clause-numbers
-returns-clause-numbers c =
+returns-clause-numbers g c =
     let e = c.args.evidence.now in
     rw (c.take_out.ensures, remove_rows e.place c.args.rows.now)
     (numbers_cut (rows_of c.args.rows.now) c.args.numbers.now c.remove.new.self c.requires.numbers e.place e.number c.requires.distinct c.requires.own c.remove.ensures.updates.0)

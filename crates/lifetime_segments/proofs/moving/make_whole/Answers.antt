@@ -4,10 +4,10 @@ use Rattle.lifetime_segments.proofs.MovedEnds.{node_made_whole}
 use Rattle.lifetime_segments.proofs.moving.make_whole.Goals as goal
 
 pub put-requires-clause-ordered : goal.put-requires-clause-ordered
-put-requires-clause-ordered g c = node_ordered g.met.D.Decomposable.order (suc c.args.level) c.requires.has.lives c.args.node.now c.requires.has.is_of
+put-requires-clause-ordered g c = node_ordered g.met.O.Order.order (suc c.args.level) c.requires.has.lives c.args.node.now c.requires.has.is_of
 
 pub put-requires-clause-room : goal.put-requires-clause-room
-put-requires-clause-room g c = omega (arith, node_few g.met.D.Decomposable.order (suc c.args.level) c.requires.has.lives c.args.node.now c.requires.has.is_of, c.requires.has.few)
+put-requires-clause-room g c = omega (arith, node_few g.met.O.Order.order (suc c.args.level) c.requires.has.lives c.args.node.now c.requires.has.is_of, c.requires.has.few)
 
 pub take_first-requires-clause-has : goal.take_first-requires-clause-has
 take_first-requires-clause-has g c = left_has_one c.requires.there
@@ -17,4 +17,4 @@ take_second-requires-clause-has g c = right_has_one c.requires.there
 
 pub returns-clause-ok : goal.returns-clause-ok
 returns-clause-ok g c =
-    node_made_whole g.D.Decomposable.stands_before c.args.level c.args.next c.args.life c.args.node.now _ c.requires.broken c.requires.whole c.in_ok-put.ensures.ok c.take_first.ensures c.take_second.ensures
+    node_made_whole g.O.Order.stands_before c.args.level c.args.next c.args.life c.args.node.now _ c.requires.broken c.requires.whole c.in_ok-put.ensures.ok c.take_first.ensures c.take_second.ensures

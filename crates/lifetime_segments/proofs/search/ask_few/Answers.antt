@@ -1,14 +1,14 @@
-use Rattle.std.proofs.Common.{◌≡◌, ◌+◌, ◌<◌, true, suc, ◌∷◌, [], length, take, sym, ap, ◌∙◌, arith, length-take}
-use Rattle.lifetime_segments.specs.Lifetimes.{holds, items_at}
+use Rattle.std.proofs.Common.{◌≡◌, ◌+◌, ◌<◌, suc, ◌∷◌, [], length, take, sym, ap, ◌∙◌, arith, length-take}
+use Rattle.lifetime_segments.specs.Lifetimes.{items_at}
 use Rattle.lifetime_segments.specs.Lawful.{AreLawful, most_items}
 use Rattle.lifetime_segments.specs.Ordered.{in_order}
 use Rattle.lifetime_segments.specs.OrderedLaws.{in_order-absorbs, in_order-ordered, length-in_order}
 use Rattle.lifetime_segments.proofs.FewLives.{items_at-there, items_at-gone}
-use Rattle.lifetime_segments.proofs.InRange.{nothing_below, nothing_above, nothing_after}
+use Rattle.lifetime_segments.proofs.InRange.{nothing_below, nothing_above}
 use Rattle.lifetime_segments.proofs.Nodes.{items_at-few}
 use Rattle.lifetime_segments.proofs.search.ask_few.Given.{Over}
 use Rattle.lifetime_segments.proofs.search.ask_few.Goals as goal
-use Rattle.lifetime_segments.proofs.search.ask_few.Goals.{then-holds+else-is_settled, else-holds, After-get-life}
+use Rattle.lifetime_segments.proofs.search.ask_few.Goals.{then-holds, else-holds, After-get-life}
 
 pub loop-place-init : goal.loop-place-init
 loop-place-init g c =
@@ -46,47 +46,27 @@ returns-then-is_above g c =
     ∙ nothing_above g.met.D.Decomposable.order g.met.D.Decomposable.laws g.met.D.RangeSearch.range_laws c.args.query c.args.label c.args.few.now c.loop-place.place c.get-life.result c.requires.ordered c.requires.few
     c.get-life.ensures (sym c.is_above.ensures ∙ c.if-is_above.true)
 
--- an item that is there is one more of those that were looked at
-one_more : (g : Over) (c : After-get-life g) → holds c.args.label c.get-life.result ≡ true
-    → g.D.Decomposable.combined (g.D.Decomposable.answer (in_order g.D.Decomposable.stands_before (items_at c.args.label (take c.loop-place.place c.args.few.now))) c.args.query) (g.D.Decomposable.answer (c.get-life.result.item ∷ []) c.args.query)
-    ≡ g.D.Decomposable.answer (in_order g.D.Decomposable.stands_before (items_at c.args.label (take (suc c.loop-place.place) c.args.few.now))) c.args.query
-one_more g c here =
-    let before = g.D.Decomposable.stands_before in
-    let few = c.args.few.now in
-    let seen = items_at c.args.label (take c.loop-place.place few) in
-    let lawful : AreLawful before (in_order before seen) (c.get-life.result.item ∷ []) = record {
-      first_ordered = in_order-ordered g.met.D.Decomposable.order seen;
-      second_ordered = (tt, tt);
-      few = omega (arith, room g c);
-    } in
-    sym (g.met.D.Decomposable.laws.together (in_order before seen) (c.get-life.result.item ∷ []) c.args.query lawful)
-    ∙ ap (λ items. g.D.Decomposable.answer items c.args.query)
-    (in_order-absorbs g.met.D.Decomposable.order seen (c.get-life.result.item ∷ [])
-    ∙ ap (in_order before) (sym (items_at-there c.args.label few c.loop-place.place c.get-life.result c.get-life.ensures here)))
-
-pub returns-then-is_settled : goal.returns-then-is_settled
-returns-then-is_settled g c =
-    let answer = g.D.Decomposable.answer in
-    let added =
-    c.with_one-part.ensures
-    ∙ ap (λ part. g.D.Decomposable.combined part (answer (c.get-life.result.item ∷ []) c.args.query)) c.loop-place.invariant
-    ∙ one_more g (goal.at.returns-then-is_settled g c).After-get-life (sym c.holds.ensures ∙ c.if-holds.true) in
-    added
-    ∙ nothing_after g.met.D.Decomposable.order g.met.D.Decomposable.laws g.met.D.RangeSearch.range_laws c.args.query c.args.label c.args.few.now (suc c.loop-place.place) c.requires.ordered
-    (ap (g.D.RangeSearch.settled c.args.query) (sym added) ∙ sym c.is_settled.ensures ∙ c.if-is_settled.true)
-
 pub loop-place-preserved : goal.loop-place-preserved
 loop-place-preserved g c =
     let before = g.D.Decomposable.stands_before in
     let answer = g.D.Decomposable.answer in
     let few = c.args.few.now in
+    let seen = items_at c.args.label (take c.loop-place.place few) in
     let next : suc c.loop-place.place ≡ c.loop-place.place + 1 = omega arith in
     elim c.if-holds.branch [
-      | then-holds+else-is_settled w ↦
+      | then-holds w ↦
+          let lawful : AreLawful before (in_order before seen) (c.get-life.result.item ∷ []) = record {
+            first_ordered = in_order-ordered g.met.D.Decomposable.order seen;
+            second_ordered = (tt, tt);
+            few = omega (arith, room g (goal.at.loop-place-preserved g c).After-get-life);
+          } in
           w.part-is
           ∙ w.with_one-part.ensures
           ∙ ap (λ part. g.D.Decomposable.combined part (answer (c.get-life.result.item ∷ []) c.args.query)) c.loop-place.invariant
-          ∙ one_more g (goal.at.loop-place-preserved g c).After-get-life (sym c.holds.ensures ∙ w.if-holds.true)
+          ∙ sym (g.met.D.Decomposable.laws.together (in_order before seen) (c.get-life.result.item ∷ []) c.args.query lawful)
+          ∙ ap (λ items. answer items c.args.query)
+          (in_order-absorbs g.met.D.Decomposable.order seen (c.get-life.result.item ∷ [])
+          ∙ ap (in_order before) (sym (items_at-there c.args.label few c.loop-place.place c.get-life.result c.get-life.ensures (sym c.holds.ensures ∙ w.if-holds.true))))
           ∙ ap (λ n. answer (in_order before (items_at c.args.label (take n few))) c.args.query) next
       | else-holds w ↦
           w.part-is

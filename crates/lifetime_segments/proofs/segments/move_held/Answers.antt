@@ -9,30 +9,30 @@ use Rattle.lifetime_segments.proofs.segments.move_held.Goals as goal
 
 pub move_end-requires-clause-rises : goal.move_end-requires-clause-rises
 move_end-requires-clause-rises g c =
-    let some = position-some (stands_earlier g.D.Decomposable.stands_before) c.args.life c.args.held.now c.args.place c.requires.place in
-    let range : IsInRange c.args.life = held_range g.met.D.Decomposable.order c.args.life c.args.held.now c.args.root.now c.requires.held some.0 in
+    let some = position-some (stands_earlier g.O.Order.stands_before) c.args.life c.args.held.now c.args.place c.requires.place in
+    let range : IsInRange c.args.life = held_range g.met.O.Order.order c.args.life c.args.held.now c.args.root.now c.requires.held some.0 in
     omega arith
 
 pub move_end-requires-clause-there : goal.move_end-requires-clause-there
 move_end-requires-clause-there g c =
-    let some = position-some (stands_earlier g.D.Decomposable.stands_before) c.args.life c.args.held.now c.args.place c.requires.place in
-    held_one g.met.D.Decomposable.order c.args.life c.args.held.now c.args.root.now c.requires.held some.0
+    let some = position-some (stands_earlier g.O.Order.stands_before) c.args.life c.args.held.now c.args.place c.requires.place in
+    held_one g.met.O.Order.order c.args.life c.args.held.now c.args.root.now c.requires.held some.0
 
 pub replace-requires : goal.replace-requires
-replace-requires g c = record { within = position-within (stands_earlier g.D.Decomposable.stands_before) c.args.life c.args.held.now c.args.place c.requires.place }
+replace-requires g c = record { within = position-within (stands_earlier g.O.Order.stands_before) c.args.life c.args.held.now c.args.place c.requires.place }
 
 pub returns-then-is_beside-clause-ok : goal.returns-then-is_beside-clause-ok
 returns-then-is_beside-clause-ok g c =
-    let earlier = stands_earlier g.D.Decomposable.stands_before in
+    let earlier = stands_earlier g.O.Order.stands_before in
     let some = position-some earlier c.args.life c.args.held.now c.args.place c.requires.place in
     c.replace.ensures.items
-    ∙ replaced_at (earlier_order g.met.D.Decomposable.order) c.args.life c.ending-moved.result c.args.held.now c.args.place c.place_of-moved_place.result c.requires.held.ordered some.0
+    ∙ replaced_at (earlier_order g.met.O.Order.order) c.args.life c.ending-moved.result c.args.held.now c.args.place c.place_of-moved_place.result c.requires.held.ordered some.0
     (sym some.1) c.place_of-moved_place.ensures (c.is_beside.ensures.before c.if-is_beside.true) (c.is_beside.ensures.after c.if-is_beside.true)
     ∙ ap (λ moved. without earlier c.args.life (put_in earlier moved c.args.held.now)) c.ending-moved.ensures
 
 pub returns-then-is_beside-clause-held : goal.returns-then-is_beside-clause-held
 returns-then-is_beside-clause-held g c =
-    let order = g.met.D.Decomposable.order in
-    let some = position-some (stands_earlier g.D.Decomposable.stands_before) c.args.life c.args.held.now c.args.place c.requires.place in
-    subst (λ held. AreHeld g.D.Decomposable.stands_before held c.move_end.new.trie) (sym (returns-then-is_beside-clause-ok g c))
+    let order = g.met.O.Order.order in
+    let some = position-some (stands_earlier g.O.Order.stands_before) c.args.life c.args.held.now c.args.place c.requires.place in
+    subst (λ held. AreHeld g.O.Order.stands_before held c.move_end.new.trie) (sym (returns-then-is_beside-clause-ok g c))
     (held_moved order c.args.life c.args.next c.args.held.now c.args.root.now c.move_end.new.trie c.requires.range c.requires.room some.0 c.requires.held c.in_ok-move_end.ensures.ok)

@@ -1,8 +1,8 @@
 use Rattle.std.proofs.Common.{◌≡◌, ◌<◌, ◌-◌, ◌^◌, suc, false, ◌∷◌, refl, sym, subst, ap, ◌∙◌, arith, rules}
 use Rattle.lifetime_segments.specs.Lifetimes.{stands_by_item}
 use Rattle.lifetime_segments.specs.Ordered.{is_in, without}
-use Rattle.lifetime_segments.specs.Tries.{IsOfNode, IsBare, NodeHasOne, FirstHasOne, SecondHasOne, is_whole}
-use Rattle.lifetime_segments.proofs.Nodes.{LeadsTo, node_of, trie_of, some_where, node_has_one, left_has_one, right_has_one, node_ordered, node_is_in, node_without_whole, node_without_parts, bare_nothing, below_level}
+use Rattle.lifetime_segments.specs.Tries.{LeadsTo, IsOfNode, IsBare, NodeHasOne, FirstHasOne, SecondHasOne, is_whole}
+use Rattle.lifetime_segments.proofs.Nodes.{node_of, trie_of, some_where, node_has_one, left_has_one, right_has_one, node_ordered, node_is_in, node_without_whole, node_without_parts, bare_nothing, below_level}
 use Rattle.std.proofs.lemmas.Bool.Decides.{nat_tests}
 use Rattle.std.proofs.lemmas.Nat.{pow_pos}
 use Rattle.lifetime_segments.proofs.Spans.{double}
@@ -12,43 +12,43 @@ use Rattle.lifetime_segments.proofs.taking.+take.Goals as goal
 pub take-take_life-requires-clause-ordered : goal.take-take_life-requires-clause-ordered
 take-take_life-requires-clause-ordered g t c =
     let all = c.args.life ∷ c.requires.has.others in
-    few_ordered g.met.D.Decomposable.order c.args.level all c.in-Few.few (few_of g.D.Decomposable.stands_before c.args.level all c.in-Few.few c.args.trie.now c.in-Few.is c.requires.has.is_of)
+    few_ordered g.met.O.Order.order c.args.level all c.in-Few.few (few_of g.O.Order.stands_before c.args.level all c.in-Few.few c.args.trie.now c.in-Few.is c.requires.has.is_of)
 
 pub take-take_life-requires-clause-there : goal.take-take_life-requires-clause-there
 take-take_life-requires-clause-there g t c =
-    let before = g.D.Decomposable.stands_before in
+    let before = g.O.Order.stands_before in
     let others = c.requires.has.others in
     ap (λ life. is_in (stands_by_item before) life c.in-Few.few) c.clipped.ensures
-    ∙ few_there g.met.D.Decomposable.order c.args.level c.args.life others c.in-Few.few (record { rises = c.requires.rises; begins = c.requires.begins })
+    ∙ few_there g.met.O.Order.order c.args.level c.args.life others c.in-Few.few (record { rises = c.requires.rises; begins = c.requires.begins })
     (few_of before c.args.level (c.args.life ∷ others) c.in-Few.few c.args.trie.now c.in-Few.is c.requires.has.is_of)
 
 pub take-returns-in-Few : goal.take-returns-in-Few
 take-returns-in-Few g t c lives is_of =
-    let before = g.D.Decomposable.stands_before in
+    let before = g.O.Order.stands_before in
     of_few before c.args.level lives c.take_life.new.few _ refl
-    (few_without g.met.D.Decomposable.order c.args.level c.args.life lives c.in-Few.few c.take_life.new.few (record { rises = c.requires.rises; begins = c.requires.begins })
+    (few_without g.met.O.Order.order c.args.level c.args.life lives c.in-Few.few c.take_life.new.few (record { rises = c.requires.rises; begins = c.requires.begins })
     (c.take_life.ensures ∙ ap (λ life. without (stands_by_item before) life c.in-Few.few) c.clipped.ensures)
     (few_of before c.args.level (c.args.life ∷ lives) c.in-Few.few c.args.trie.now c.in-Few.is is_of))
 
 pub take-take_from_node-requires : goal.take-take_from_node-requires
 take-take_from_node-requires g t c κs within =
     let leads : LeadsTo c.args.trie.now c.in-Full.node.value = subst (λ trie. LeadsTo trie c.in-Full.node.value) (sym c.in-Full.is) (refl, refl, refl) in
-    let has : NodeHasOne g.D.Decomposable.stands_before c.args.level c.args.life c.deref_mut.result.now =
-    subst (NodeHasOne g.D.Decomposable.stands_before c.args.level c.args.life) (sym c.deref_mut.ensures.value) (node_has_one leads c.requires.has) in
+    let has : NodeHasOne g.O.Order.stands_before c.args.level c.args.life c.deref_mut.result.now =
+    subst (NodeHasOne g.O.Order.stands_before c.args.level c.args.life) (sym c.deref_mut.ensures.value) (node_has_one leads c.requires.has) in
     search rules
 
 pub take-returns-then-is_bare : goal.take-returns-then-is_bare
 take-returns-then-is_bare g t c lives is_of =
-    let before = g.D.Decomposable.stands_before in
+    let before = g.O.Order.stands_before in
     let leads : LeadsTo c.args.trie.now c.in-Full.node.value = subst (λ trie. LeadsTo trie c.in-Full.node.value) (sym c.in-Full.is) (refl, refl, refl) in
     bare_nothing before c.args.level lives c.take_from_node.new.node (subst IsBare c.deref.ensures (c.is_bare.ensures.bare c.if-is_bare.true))
     (c.take_from_node.ensures lives
     (subst (IsOfNode before c.args.level (c.args.life ∷ lives)) (sym c.deref_mut.ensures.value) (node_of before c.args.level (c.args.life ∷ lives) c.args.trie.now c.in-Full.node.value leads is_of)))
-    c.new.result c.new.ensures
+    c.clear.new.self c.clear.ensures
 
 pub take-returns-else-is_bare : goal.take-returns-else-is_bare
 take-returns-else-is_bare g t c lives is_of =
-    let before = g.D.Decomposable.stands_before in
+    let before = g.O.Order.stands_before in
     let leads : LeadsTo c.args.trie.now c.in-Full.node.value = subst (λ trie. LeadsTo trie c.in-Full.node.value) (sym c.in-Full.is) (refl, refl, refl) in
     let after =
     c.take_from_node.ensures lives
@@ -65,19 +65,19 @@ take_second-take-requires g t c κs within =
     search rules
 
 pub take_from_node-take_out-requires-clause-ordered : goal.take_from_node-take_out-requires-clause-ordered
-take_from_node-take_out-requires-clause-ordered g t c = node_ordered g.met.D.Decomposable.order c.args.level (c.args.life ∷ c.requires.has.others) c.args.node.now c.requires.has.is_of
+take_from_node-take_out-requires-clause-ordered g t c = node_ordered g.met.O.Order.order c.args.level (c.args.life ∷ c.requires.has.others) c.args.node.now c.requires.has.is_of
 
 pub take_from_node-take_out-requires-clause-there : goal.take_from_node-take_out-requires-clause-there
 take_from_node-take_out-requires-clause-there g t c =
-    node_is_in g.met.D.Decomposable.order c.args.level c.args.life c.requires.has.others c.args.node.now (sym c.is_whole.ensures ∙ c.if-is_whole.true) c.requires.has.is_of
+    node_is_in g.met.O.Order.order c.args.level c.args.life c.requires.has.others c.args.node.now (sym c.is_whole.ensures ∙ c.if-is_whole.true) c.requires.has.is_of
 
 pub take_from_node-take_first-requires : goal.take_from_node-take_first-requires
 take_from_node-take_first-requires g t c κs within =
     let broken : is_whole c.args.level c.args.life ≡ false = sym c.is_whole.ensures ∙ c.if-is_whole.false in
     let below : c.args.level ≡ suc (c.args.level - 1) = below_level c.args.level c.args.life broken c.requires.begins (omega (arith, c.requires.rises)) in
     let broken_below : is_whole (suc (c.args.level - 1)) c.args.life ≡ false = subst (λ n. is_whole n c.args.life ≡ false) below broken in
-    let has : FirstHasOne g.D.Decomposable.stands_before (c.args.level - 1) c.args.life c.args.node.now.left =
-    left_has_one (subst (λ n. NodeHasOne g.D.Decomposable.stands_before n c.args.life c.args.node.now) below c.requires.has) in
+    let has : FirstHasOne g.O.Order.stands_before (c.args.level - 1) c.args.life c.args.node.now.left =
+    left_has_one (subst (λ n. NodeHasOne g.O.Order.stands_before n c.args.life c.args.node.now) below c.requires.has) in
     search rules
 
 pub take_from_node-take_second-requires : goal.take_from_node-take_second-requires
@@ -86,16 +86,16 @@ take_from_node-take_second-requires g t c κs within =
     let below : c.args.level ≡ suc (c.args.level - 1) = below_level c.args.level c.args.life broken c.requires.begins (omega (arith, c.requires.rises)) in
     let broken_below : is_whole (suc (c.args.level - 1)) c.args.life ≡ false = subst (λ n. is_whole n c.args.life ≡ false) below broken in
     let begins : c.args.life.from < 2 ^ suc (c.args.level - 1) = subst (λ n. c.args.life.from < 2 ^ n) below c.requires.begins in
-    let has : SecondHasOne g.D.Decomposable.stands_before (c.args.level - 1) c.args.life c.args.node.now.right =
-    right_has_one (subst (λ n. NodeHasOne g.D.Decomposable.stands_before n c.args.life c.args.node.now) below c.requires.has) in
+    let has : SecondHasOne g.O.Order.stands_before (c.args.level - 1) c.args.life c.args.node.now.right =
+    right_has_one (subst (λ n. NodeHasOne g.O.Order.stands_before n c.args.life c.args.node.now) below c.requires.has) in
     search rules
 
 pub take_from_node-returns-then-is_whole : goal.take_from_node-returns-then-is_whole
 take_from_node-returns-then-is_whole g t c =
-    node_without_whole g.met.D.Decomposable.order c.args.level c.args.life c.args.node.now _ (sym c.is_whole.ensures ∙ c.if-is_whole.true) c.take_out.ensures refl refl
+    node_without_whole g.met.O.Order.order c.args.level c.args.life c.args.node.now _ (sym c.is_whole.ensures ∙ c.if-is_whole.true) c.take_out.ensures refl refl
 
 pub take_from_node-returns-else-is_whole : goal.take_from_node-returns-else-is_whole
 take_from_node-returns-else-is_whole g t c =
     let broken : is_whole c.args.level c.args.life ≡ false = sym c.is_whole.ensures ∙ c.if-is_whole.false in
     let below : c.args.level ≡ suc (c.args.level - 1) = below_level c.args.level c.args.life broken c.requires.begins (omega (arith, c.requires.rises)) in
-    node_without_parts g.D.Decomposable.stands_before c.args.level (c.args.level - 1) c.args.life c.args.node.now _ below broken refl c.take_first.ensures c.take_second.ensures
+    node_without_parts g.O.Order.stands_before c.args.level (c.args.level - 1) c.args.life c.args.node.now _ below broken refl c.take_first.ensures c.take_second.ensures

@@ -50,7 +50,10 @@ returns-clause-few g c =
     )
 
 pub returns-clause-visits : goal.returns-clause-visits
-returns-clause-visits g c = two_searches c.args.bound c.list.inside.chunks.items c.deref.result.now c.list.inside.starts.items c.list.inside.count c.begun_before-begun.result c.args.list.now c.list.invariant c.list.view_is c.deref.ensures.value c.begun_before-begun.ensures.begun c.as_slice-chunk.result.now c.args.steps.now c.begun_before-begun.new.steps c.reaching.new.steps (last_counted c.args.bound c.list.inside.chunks.items c.deref.result.now c.list.inside.starts.items c.list.inside.count c.begun_before-begun.result c.args.list.now c.list.invariant c.list.view_is
+returns-clause-visits g c =
+    let counted = last_counted c.args.bound c.list.inside.chunks.items c.deref.result.now c.list.inside.starts.items c.list.inside.count c.begun_before-begun.result c.args.list.now c.list.invariant c.list.view_is
     c.deref.ensures.value c.begun_before-begun.ensures.begun c.index.result.now c.as_slice-chunk.result.now c.index-2.result.now (omega (arith, c.if-begun-eq0.false)) c.index.ensures c.index-2.ensures
-    c.as_slice-chunk.ensures.value).part
+    c.as_slice-chunk.ensures.value in
+    two_searches c.args.bound c.list.inside.chunks.items c.deref.result.now c.list.inside.starts.items c.list.inside.count c.begun_before-begun.result c.args.list.now c.list.invariant c.list.view_is
+    c.deref.ensures.value c.begun_before-begun.ensures.begun c.as_slice-chunk.result.now c.args.steps.now c.begun_before-begun.new.steps c.reaching.new.steps counted.part counted.filled
     c.begun_before-begun.ensures.visits c.reaching.ensures.visits

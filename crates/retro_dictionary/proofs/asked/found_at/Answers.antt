@@ -8,4 +8,4 @@ pub ask-requires : goal.ask-requires
 ask-requires c = record { within = label-below label_limit 0 c.args.labels.now (c.args.place - 1) c.label_at.result c.requires.labels.rising c.label_at.ensures }
 
 pub returns : goal.returns
-returns c = c.ask.ensures ∙ ap (λ ps. found_in ps c.args.query) (pairs-after c.args.labels.now c.args.segments.now c.args.place c.label_at.result (omega arith) c.label_at.ensures)
+returns c = c.ask.ensures ∙ ap (λ ps. found_in ps c.args.range) (pairs-after c.args.labels.now c.args.segments.now c.args.place c.label_at.result (omega arith) c.label_at.ensures)

@@ -1,4 +1,4 @@
-use Rattle.std.proofs.Common.{w64, ◌-◌, ap, ◌∙◌, arith}
+use Rattle.std.proofs.Common.{w64, ap, ◌∙◌, arith}
 use Rattle.std.specs.Option.{option_and_then}
 use Rattle.std.proofs.lemmas.Int.{to_z-of_z}
 use Rattle.retro_dictionary.specs.Asked.{value_put}

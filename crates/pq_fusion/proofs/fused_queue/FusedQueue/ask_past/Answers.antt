@@ -1,17 +1,19 @@
-use Rattle.std.proofs.Common.{◌≡◌, ◌+◌, ◌*◌, ◌^◌, ◌<◌, ap, ◌∙◌, sym, subst, take, length, arith}
+use Rattle.std.proofs.Common.{◌≡◌, ◌≤◌, ap, ◌∙◌, sym, subst, take, length, arith}
 use Rattle.retro_base.specs.declared.kind.Kind.TheVariants.{Pq}
 use Rattle.retro_base.specs.Answers.{answer_of}
+use Rattle.retro_base.specs.Limits.{most_rows}
 use Rattle.retro_base.specs.Replay.{state_at}
 use Rattle.retro_base.specs.State.{entries}
+use Rattle.bridge_pq.specs.Bridged.{AreAdded}
 use Rattle.pq_fusion.specs.EntryCounts.{left_by}
-use Rattle.retro_base.specs.Digits.{digits}
-use Rattle.retro_base.specs.VisitsLaws.{below-digits}
-use Rattle.pq_fusion.specs.Searches.{VisitsUpTo, run_of}
+use Rattle.pq_fusion.specs.Searches.{AskedWithin, SizedWithin}
 use Rattle.pq_fusion.specs.Wear.{WornRows}
-use Rattle.pq_fusion.proofs.Searched.{sought_digits}
-use Rattle.pq_fusion.proofs.Stored.{levels-of_digits}
+use Rattle.pq_fusion.proofs.Paths.{seek_digits, walk_digits}
 use Rattle.pq_fusion.proofs.Replays.{state_is_left}
 use Rattle.pq_fusion.proofs.fused_queue.FusedQueue.ask_past.Goals as goal
+
+pub answer-requires-clause-added : goal.answer-requires-clause-added
+answer-requires-clause-added g c = subst (λ rows. AreAdded rows c.added.result) (sym c.self.invariant) c.added.ensures
 
 pub returns-clause-answer : goal.returns-clause-answer
 returns-clause-answer g c =
@@ -23,9 +25,11 @@ returns-clause-answer g c =
 pub returns-clause-visits : goal.returns-clause-visits
 returns-clause-visits g c =
     let same : c.self.inside.rows.rows ≡ c.args.self.now.rows = c.self.invariant ∙ ap (λ (seen : WornRows). seen.rows) c.self.view_is in
-    let rows = c.self.inside.rows.rows in
-    let size = digits (length rows + 1) in
-    let below : length rows + 1 < 2 ^ size = below-digits (length rows + 1) in
-    subst (λ l. VisitsUpTo (1600 * digits (length l + 1) * digits (length l + 1)) c.args.steps.now c.answer.new.steps) same
-    (sought_digits (length rows) size (run_of rows) c.args.steps.now c.answer.new.steps below (omega arith) (omega arith)
-    (c.answer.ensures.visits (3 * size) size (levels-of_digits (length rows + 1)) (omega (arith, below))))
+    let few : length c.self.inside.rows.rows ≤ most_rows = omega (arith, ap length c.self.invariant, c.kind-replayable.ensures.replayable.few) in
+    subst (λ rows. AskedWithin (length rows) c.args.steps.now c.answer.new.steps) same (seek_digits (length c.self.inside.rows.rows) few _ _ c.answer.ensures.visits)
+
+pub returns-clause-size_visits : goal.returns-clause-size_visits
+returns-clause-size_visits g c = λ asked.
+    let same : c.self.inside.rows.rows ≡ c.args.self.now.rows = c.self.invariant ∙ ap (λ (seen : WornRows). seen.rows) c.self.view_is in
+    let few : length c.self.inside.rows.rows ≤ most_rows = omega (arith, ap length c.self.invariant, c.kind-replayable.ensures.replayable.few) in
+    subst (λ rows. SizedWithin (length rows) c.args.steps.now c.answer.new.steps) same (walk_digits (length c.self.inside.rows.rows) few _ _ (c.answer.ensures.size_visits asked))

@@ -1,10 +1,10 @@
-use Rattle.std.proofs.Common.{◌≡◌, ◌+◌, ◌*◌, length, take, arith, ap, ◌∙◌, sym, subst}
+use Rattle.std.proofs.Common.{◌≡◌, length, take, arith, ap, ◌∙◌, sym, subst}
 use Rattle.std.proofs.lemmas.List.{length-take}
-use Rattle.pq_fusion.specs.Searches.{run_of}
 use Rattle.pq_fusion.specs.EntryCounts.{counts_of, LeadsCounts}
 use Rattle.pq_fusion.proofs.Carried.{carries_none, carries_whole, carries_sides}
 use Rattle.pq_fusion.proofs.Pairs.{run_few}
-use Rattle.pq_fusion.proofs.Searched.{after_one, no_more_than, piece_few, walk_left, walk_right, whole_walk, run_walk, earlier_shorter, later_shorter, earlier_run, later_run}
+use Rattle.pq_fusion.proofs.Paths.{walks_earlier, walks_later, walks_none, walks_run, walks_whole}
+use Rattle.pq_fusion.proofs.Searched.{after_one, opened, piece_few}
 use Rattle.pq_fusion.proofs.Sizes.{left_size}
 use Rattle.pq_fusion.proofs.subtree.Subtree.+counts.Goals as goal
 
@@ -24,13 +24,18 @@ returns-in-Some-clause-few g t c = omega (arith, left_size c.args.self.now.rows 
 
 pub returns-in-Some-clause-whole : goal.returns-in-Some-clause-whole
 returns-in-Some-clause-whole g t c = λ all k small.
-    let few = piece_few c.args.self.now.rows c.in-Some.piece.now c.in-Some.ensures k small in
-    no_more_than (1 + 4 * k) (4 * k + 1) _ _ (omega arith) (after_one (4 * k) _ _ _ c.tick.ensures (c.after_piece.ensures.visits k few.0 few.1))
+    opened _ _ _ _ c.tick.ensures c.after_piece.ensures.visits k (piece_few c.args.self.now.rows c.in-Some.piece.now c.in-Some.ensures k small)
 
 pub returns-in-Some-clause-visits : goal.returns-in-Some-clause-visits
-returns-in-Some-clause-visits g t c = λ levels k within small.
-    let few = piece_few c.args.self.now.rows c.in-Some.piece.now c.in-Some.ensures k small in
-    whole_walk levels k (run_of c.args.self.now.rows) _ _ (after_one (4 * k) _ _ _ c.tick.ensures (c.after_piece.ensures.visits k few.0 few.1))
+returns-in-Some-clause-visits g t c =
+    walks_whole c.args.self.now.rows _ _ (λ k small.
+    opened _ _ _ _ c.tick.ensures c.after_piece.ensures.visits k (piece_few c.args.self.now.rows c.in-Some.piece.now c.in-Some.ensures k small))
+
+pub returns-in-None-clause-visits : goal.returns-in-None-clause-visits
+returns-in-None-clause-visits g t c = walks_none c.args.self.now.rows _ _ c.tick.ensures
+
+pub returns-in-Nothing-clause-visits : goal.returns-in-Nothing-clause-visits
+returns-in-Nothing-clause-visits g t c = walks_none c.args.self.now.rows _ _ c.tick.ensures
 
 pub returns-in-Nothing-clause-counts : goal.returns-in-Nothing-clause-counts
 returns-in-Nothing-clause-counts g t c = carries_none (λ entries. c.args.before ≡ counts_of c.args.bound entries) c.args.self.now.rows c.args.to c.in-Nothing.ensures
@@ -41,19 +46,14 @@ returns-in-Run-clause-counts g t c =
     (c.split_at.ensures.front ∙ ap (take c.args.to) (c.as_slice.ensures.value ∙ sym c.in-Run.ensures.rows_are)) c.after_rows.ensures.counts
 
 pub returns-in-Run-clause-visits : goal.returns-in-Run-clause-visits
-returns-in-Run-clause-visits g t c = λ levels k within small.
+returns-in-Run-clause-visits g t c =
     let rows = c.args.self.now.rows in
-    run_walk levels k (length c.split_at.result.0.now) (run_of rows) _ _
-    (omega (arith, ap length c.split_at.ensures.front, ap length c.as_slice.ensures.value, ap length c.in-Run.ensures.rows_are, length-take c.args.to c.as_slice.result.now, run_few rows c.in-Run.run'.now c.in-Run.ensures))
-    (after_one _ _ _ _ c.tick.ensures c.after_rows.ensures.visits)
+    walks_run rows (length c.split_at.result.0.now) _ _
+    (omega (arith, ap length c.split_at.ensures.front, ap length c.as_slice.ensures.value, ap length c.in-Run.ensures.rows_are, length-take c.args.to c.as_slice.result.now))
+    (run_few rows c.in-Run.run'.now c.in-Run.ensures) (after_one _ _ _ _ c.tick.ensures c.after_rows.ensures.visits)
 
 pub returns-then-to-own-clause-visits : goal.returns-then-to-own-clause-visits
-returns-then-to-own-clause-visits g t c = λ levels k within small.
-    let rows = c.args.self.now.rows in
-    let pair = c.in-Pair.pair.now in
-    let root = c.in-Pair.ensures in
-    walk_left rows pair root (4 * k + 2) (run_of pair.earlier.rows) (run_of rows) levels _ _ _ (omega arith) (earlier_run rows pair root) within c.tick.ensures
-    (λ below inside. c.counts.ensures.visits below k inside (earlier_shorter rows pair root k small))
+returns-then-to-own-clause-visits g t c = walks_earlier c.args.self.now.rows c.in-Pair.pair.now c.in-Pair.ensures _ _ _ c.tick.ensures c.counts.ensures.visits
 
 pub returns-else-to-own-clause-counts : goal.returns-else-to-own-clause-counts
 returns-else-to-own-clause-counts g t c =
@@ -63,10 +63,5 @@ returns-else-to-own-clause-counts g t c =
     c.in-Pair.ensures.rows_are c.len-own.ensures.count (omega (arith, c.if-to-own.false)) c.counts-first.ensures.counts c.counts-in-Pair.ensures.counts
 
 pub returns-else-to-own-clause-visits : goal.returns-else-to-own-clause-visits
-returns-else-to-own-clause-visits g t c = λ levels k within small.
-    let rows = c.args.self.now.rows in
-    let pair = c.in-Pair.pair.now in
-    let root = c.in-Pair.ensures in
-    walk_right rows pair root (4 * k + 2) (4 * k + 1) (run_of pair.later.rows) (run_of rows) levels _ _ _ _ (omega arith) (later_run rows pair root) within c.tick.ensures
-    (c.counts-first.ensures.whole c.len-own.ensures.count k (earlier_shorter rows pair root k small))
-    (λ below inside. c.counts-in-Pair.ensures.visits below k inside (later_shorter rows pair root k small))
+returns-else-to-own-clause-visits g t c =
+    walks_later c.args.self.now.rows c.in-Pair.pair.now c.in-Pair.ensures _ _ _ _ c.tick.ensures (c.counts-first.ensures.whole c.len-own.ensures.count) c.counts-in-Pair.ensures.visits

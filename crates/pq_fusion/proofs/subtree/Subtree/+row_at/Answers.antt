@@ -1,5 +1,4 @@
-use Rattle.pq_fusion.proofs.Searched.{no_change, no_more_than, step_left, step_right}
-use Rattle.std.proofs.Common.{arith, refl}
+use Rattle.pq_fusion.proofs.Searched.{step_left, step_right}
 use Rattle.pq_fusion.proofs.subtree.Subtree.+row_at.Goals as goal
 
 pub returns-then-place-before-clause-visits : goal.returns-then-place-before-clause-visits
@@ -8,5 +7,4 @@ returns-then-place-before-clause-visits g t c = λ levels within.
 
 pub returns-else-place-before-clause-visits : goal.returns-else-place-before-clause-visits
 returns-else-place-before-clause-visits g t c = λ levels within.
-    step_right c.args.self.now.rows c.in-Pair.pair.now c.in-Pair.ensures levels _ _ c.tick.new.self _ within c.tick.ensures
-    (no_more_than 0 1 c.tick.new.self c.tick.new.self (omega arith) (no_change c.tick.new.self c.tick.new.self refl)) c.row_at-in-Pair.ensures.visits
+    step_right c.args.self.now.rows c.in-Pair.pair.now c.in-Pair.ensures levels _ _ _ within c.tick.ensures c.row_at-in-Pair.ensures.visits

@@ -3,8 +3,7 @@ use Rattle.std.proofs.lemmas.Int.{ints}
 use Rattle.retro_base.specs.declared.question.Answer.TheVariants.{Number}
 use Rattle.retro_base.specs.Answers.{answer_of}
 use Rattle.retro_base.specs.lemmas.EntrySteps.{no_other_question}
-use Rattle.pq_fusion.specs.Searches.{run_of}
-use Rattle.pq_fusion.proofs.Searched.{seek_none}
+use Rattle.pq_fusion.proofs.Paths.{seek_once}
 use Rattle.pq_fusion.proofs.subtree.Subtree.answer.Goals as goal
 
 pub returns-in-Size-clause-answer : goal.returns-in-Size-clause-answer
@@ -23,4 +22,4 @@ pub returns-in_default-clause-answer : goal.returns-in_default-clause-answer
 returns-in_default-clause-answer g c = sym (no_other_question _ _ c.in_default.not-Size c.in_default.not-Min c.in_default.not-Nth)
 
 pub returns-in-Size-clause-visits : goal.returns-in-Size-clause-visits
-returns-in-Size-clause-visits g c = λ levels k inside small. seek_none levels k (run_of c.args.self.now.rows) _ _ (c.left_len.ensures.visits levels k inside small)
+returns-in-Size-clause-visits g c = seek_once c.args.self.now.rows _ _ c.left_len.ensures.visits

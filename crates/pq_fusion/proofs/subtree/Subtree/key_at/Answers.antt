@@ -1,64 +1,83 @@
-use Rattle.std.proofs.Common.{◌<◌, ◌+◌, ◌*◌, Some, take, length, arith, ap, w64, of_z, to_z}
-use Rattle.std.proofs.lemmas.Int.{ints}
-use Rattle.pq_fusion.specs.Searches.{run_of}
+use Rattle.std.proofs.Common.{◌+◌, ◌-◌, ◌*◌, ◌/◌, Some, take, length, arith, rules, refl, ap, sym, ◌∙◌, subst}
+use Rattle.std.proofs.lemmas.Int.{to_z-of_z}
+use Rattle.retro_base.specs.Digits.{digits}
+use Rattle.pq_fusion.specs.declared.entry_counts.EntryCounts.{EntryCounts}
 use Rattle.pq_fusion.specs.EntryCounts.{left_by}
-use Rattle.pq_fusion.proofs.Halved.{entry_at, key_from, key_below, key_within, width_is}
-use Rattle.pq_fusion.proofs.Searched.{sought_starts, sought_more, sought_ends, seek_none}
+use Rattle.pq_fusion.specs.Searches.{walk_of}
+use Rattle.pq_fusion.proofs.Added.{IsRanked, entries_few, found_there, key_behind, none_there, ranked_earlier, ranked_later, ranked_starts, turn}
+use Rattle.pq_fusion.proofs.Searched.{sought_ends, sought_starts}
 use Rattle.pq_fusion.proofs.subtree.Subtree.key_at.Goals as goal
 
 pub halve-init : goal.halve-init
 halve-init g c =
-    let rows = take c.args.to c.args.self.now.rows in
-    let within : c.args.index < length (left_by rows) = omega (arith, c.left_len-left.ensures.count, c.from.ensures, c.if-index-from.false) in
-    let found = entry_at (left_by rows) c.args.index within in
-    let lies = key_within rows c.args.index found.0 found.1 _ c.span-low.result c.span-low.ensures.span in
-    let low = to_z w64 (of_z w64 c.span-low.result.low) in
-    let high = to_z w64 (of_z w64 c.span-low.result.high) in (
-      λ x there.
-          let own = key_within rows c.args.index x there _ c.span-low.result c.span-low.ensures.span in
-          (omega (arith, ints, own.0), omega (arith, ints, own.1)),
-      width_is low high c.abs_diff-width.result (omega (arith, ints, lies.0, lies.1)) c.abs_diff-width.ensures,
-      λ levels k inside small. sought_starts c.abs_diff-width.result ((levels + 1) * (4 * k + 2) + run_of c.args.self.now.rows) c.span-low.new.steps (omega arith),
+    let rows = c.args.self.now.rows in
+    let added = c.args.added.now in (
+      λ x there. subst (IsRanked added x 0) (sym c.len-high.ensures) (ranked_starts rows added c.requires.added c.args.to c.args.index x there),
+      refl,
+      λ some. absurd (omega (arith, some)),
+      omega (arith, c.len-high.ensures),
+      λ levels most turns inside down small.
+          sought_starts (c.len-high.result - 0) (12 * digits (length rows + 1) + walk_of levels most) turns c.args.steps.now
+          (omega (arith, c.len-high.ensures, entries_few rows added c.requires.added, inside, small)),
     )
 
-pub halve-preserved-then-reaching-rank : goal.halve-preserved-then-reaching-rank
-halve-preserved-then-reaching-rank g c =
-    let rows = take c.args.to c.args.self.now.rows in (
-      λ x there. (
-        key_from rows c.args.index x there _ c.reaching.result c.reaching.ensures.count (omega (arith, c.left_len-left.ensures.count, c.from.ensures, c.if-index-from.false, c.if-reaching-rank.true)),
-        (c.halve.invariant.0 x there).1,
-      ),
-      omega (arith, ints, c.halve.invariant.1),
-      λ levels k inside small.
-          sought_more c.halve.width ((levels + 1) * (4 * k + 2) + run_of c.args.self.now.rows) _ c.halve.steps _ c.reaching.new.steps (omega (arith, c.halve-test.true))
-          (c.halve.invariant.2 levels k inside small) (omega arith) (c.reaching.ensures.visits levels k inside small),
+pub returns-then-index-from-clause-key : goal.returns-then-index-from-clause-key
+returns-then-index-from-clause-key g c =
+    none_there (left_by (take c.args.to c.args.self.now.rows)) c.args.index
+    (omega (arith, ap (λ (t : EntryCounts). t.left) c.counts_at-counts.ensures.counts, c.from.ensures, c.if-index-from.true))
+
+pub returns-then-index-from-clause-visits : goal.returns-then-index-from-clause-visits
+returns-then-index-from-clause-visits g c = λ levels most turns inside down small.
+    let rows = c.args.self.now.rows in
+    let added = c.args.added.now in
+    sought_ends 0 (12 * digits (length rows + 1) + walk_of levels most) turns c.args.steps.now c.counts_at-counts.new.steps
+    (turn rows added c.requires.added (walk_of levels most) turns (c.halve.high - c.halve.low) 0 c.args.steps.now c.halve.steps c.get-entry.new.steps c.counts_at-counts.new.steps
+    (omega (arith, c.halve-test.true)) (omega (arith, c.halve-test.true)) c.get-entry.ensures.visits (c.counts_at-counts.ensures.visits levels most inside down)
+    (c.halve.invariant.4 levels most turns inside down small))
+
+pub halve-preserved-then-counts-index : goal.halve-preserved-then-counts-index
+halve-preserved-then-counts-index g c =
+    let rows = c.args.self.now.rows in
+    let added = c.args.added.now in
+    let middle = c.halve.low + (c.halve.high - c.halve.low) / 2 in
+    let left = ap (λ (t : EntryCounts). t.left) c.counts_at-counts.ensures.counts in
+    let reached = ap (λ (t : EntryCounts). t.reaching) c.counts_at-counts.ensures.counts in (
+      λ x there.
+          ranked_later rows added c.requires.added c.args.to c.args.index x there c.halve.low c.halve.high middle c.get-entry.result c.get-entry.ensures.entry (c.halve.invariant.0 x there)
+          (omega (arith, left, reached, c.from.ensures, c.if-index-from.false, c.if-counts-index.true, c.counts_at-counts.ensures.few)),
+      ap Some (search (rules, to_z-of_z)) ∙ key_behind added middle c.get-entry.result c.get-entry.ensures.entry,
+      λ some. omega (arith, left, c.from.ensures, c.if-index-from.false),
+      c.halve.invariant.3,
+      λ levels most turns inside down small.
+          turn rows added c.requires.added (walk_of levels most) turns (c.halve.high - c.halve.low) (c.halve.high - (middle + 1)) c.args.steps.now c.halve.steps c.get-entry.new.steps c.counts_at-counts.new.steps
+          (omega (arith, c.halve-test.true)) (omega (arith, c.halve-test.true)) c.get-entry.ensures.visits (c.counts_at-counts.ensures.visits levels most inside down)
+          (c.halve.invariant.4 levels most turns inside down small),
     )
 
 pub halve-preserved : goal.halve-preserved
 halve-preserved g c =
-    let rows = take c.args.to c.args.self.now.rows in (
+    let rows = c.args.self.now.rows in
+    let added = c.args.added.now in
+    let middle = c.halve.low + (c.halve.high - c.halve.low) / 2 in
+    let left = ap (λ (t : EntryCounts). t.left) c.counts_at-counts.ensures.counts in
+    let reached = ap (λ (t : EntryCounts). t.reaching) c.counts_at-counts.ensures.counts in (
       λ x there.
-          let was = c.halve.invariant.0 x there in
-          let below = key_below rows c.args.index x there _ c.reaching.result c.reaching.ensures.count (omega (arith, c.left_len-left.ensures.count, c.from.ensures, c.if-index-from.false, c.if-reaching-rank.false)) in
-          (was.0, omega (arith, ints, below, c.halve.invariant.1)),
-      omega (arith, ints, c.halve.invariant.1, c.halve-test.true),
-      λ levels k inside small.
-          sought_more c.halve.width ((levels + 1) * (4 * k + 2) + run_of c.args.self.now.rows) _ c.halve.steps _ c.reaching.new.steps (omega (arith, c.halve-test.true))
-          (c.halve.invariant.2 levels k inside small) (omega arith) (c.reaching.ensures.visits levels k inside small),
+          ranked_earlier rows added c.requires.added c.args.to c.args.index x there c.halve.low c.halve.high middle c.get-entry.result c.get-entry.ensures.entry (c.halve.invariant.0 x there)
+          (omega (arith, left, reached, c.from.ensures, c.if-index-from.false, c.if-counts-index.false, c.counts_at-counts.ensures.few)),
+      c.halve.invariant.1,
+      c.halve.invariant.2,
+      omega (arith, c.halve.invariant.3, c.halve-test.true),
+      λ levels most turns inside down small.
+          turn rows added c.requires.added (walk_of levels most) turns (c.halve.high - c.halve.low) (middle - c.halve.low) c.args.steps.now c.halve.steps c.get-entry.new.steps c.counts_at-counts.new.steps
+          (omega (arith, c.halve-test.true)) (omega (arith, c.halve-test.true)) c.get-entry.ensures.visits (c.counts_at-counts.ensures.visits levels most inside down)
+          (c.halve.invariant.4 levels most turns inside down small),
     )
 
 pub returns-clause-key : goal.returns-clause-key
 returns-clause-key g c =
-    let rows = take c.args.to c.args.self.now.rows in
-    let within : c.args.index < length (left_by rows) = omega (arith, c.left_len-left.ensures.count, c.from.ensures, c.if-index-from.false) in
-    let found = entry_at (left_by rows) c.args.index within in
-    let own = c.halve.invariant.0 found.0 found.1 in
-    rw found.1 (ap Some (omega (arith, ints, own.0, own.1, c.halve.invariant.1, c.halve-test.false)))
-
-pub returns-then-index-from-clause-visits : goal.returns-then-index-from-clause-visits
-returns-then-index-from-clause-visits g c = λ levels k inside small. seek_none levels k (run_of c.args.self.now.rows) _ _ (c.left_len-left.ensures.visits levels k inside small)
+    found_there c.args.added.now (left_by (take c.args.to c.args.self.now.rows)) c.args.index c.halve.low c.halve.high c.halve.found c.halve.invariant.1 c.halve.invariant.2 c.halve.invariant.0
+    (omega (arith, c.halve-test.false))
 
 pub returns-clause-visits : goal.returns-clause-visits
-returns-clause-visits g c = λ levels k inside small.
-    sought_ends levels k (run_of c.args.self.now.rows) c.halve.width _ _ _ _ (c.left_len-left.ensures.visits levels k inside small) (c.span-low.ensures.visits levels inside)
-    (c.halve.invariant.2 levels k inside small)
+returns-clause-visits g c = λ levels most turns inside down small.
+    sought_ends (c.halve.high - c.halve.low) (12 * digits (length c.args.self.now.rows + 1) + walk_of levels most) turns c.args.steps.now c.halve.steps (c.halve.invariant.4 levels most turns inside down small)

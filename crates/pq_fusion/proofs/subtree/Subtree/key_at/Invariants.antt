@@ -1,17 +1,20 @@
-use Rattle.std.proofs.Common.{◌≡◌, ℕ, ◌+◌, ◌*◌, ◌^◌, ◌<◌, Some, take, length, slice_get}
-use Rattle.std.specs.Prelude.{pos, ◌-ℤ◌, ◌≤ℤ◌}
+use Rattle.std.proofs.Common.{◌≡◌, ℕ, ◌+◌, ◌-◌, ◌*◌, ◌^◌, ◌<◌, ◌≤◌, Some, take, length, slice_get}
 use Rattle.retro_base.specs.declared.row.Entry.{Entry}
-use Rattle.pq_fusion.specs.Nodes.{weight, IsWithinLevels}
-use Rattle.pq_fusion.specs.Searches.{run_of}
+use Rattle.retro_base.specs.Digits.{digits}
 use Rattle.pq_fusion.specs.EntryCounts.{left_by}
+use Rattle.pq_fusion.specs.Searches.{rows_down, walk_of}
+use Rattle.pq_fusion.proofs.Added.{IsRanked, key_before}
 use Rattle.pq_fusion.proofs.Searched.{IsSought}
 use Rattle.pq_fusion.proofs.subtree.Subtree.key_at.Given as goal
 
 abbrev pub invariant-halve : goal.invariant-halve
 invariant-halve g l =
-    ((x : Entry) → slice_get (left_by (take l.to l.self.rows)) l.index ≡ Some x → (l.low ≤ℤ x.key) × (x.key ≤ℤ l.high))
-    × (pos l.width ≡ l.high -ℤ l.low)
-    × ((levels k : ℕ) → IsWithinLevels (weight l.self.rows) levels → length l.self.rows < 2 ^ k → IsSought l.width ((levels + 1) * (4 * k + 2) + run_of l.self.rows) l.initial.steps l.steps)
+    ((x : Entry) → slice_get (left_by (take l.to l.self.rows)) l.index ≡ Some x → IsRanked l.added x l.low l.high)
+    × (l.found ≡ key_before l.added l.low)
+    × (0 < l.low → l.index < length (left_by (take l.to l.self.rows)))
+    × (l.high ≤ length l.added)
+    × ((levels most turns : ℕ) → length l.self.rows ≤ most → rows_down levels most ≤ 1 → most + 1 < 2 ^ turns
+    → IsSought (l.high - l.low) (12 * digits (length l.self.rows + 1) + walk_of levels most) turns l.initial.steps l.steps)
 
 abbrev pub decreases-halve : goal.decreases-halve
-decreases-halve g l = l.width
+decreases-halve g l = l.high - l.low

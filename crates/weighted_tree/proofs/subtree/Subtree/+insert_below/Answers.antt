@@ -4,7 +4,7 @@ use Rattle.monoid_laws.specs.MeasureLaws.{items-measure_of}
 use Rattle.weighted_tree.specs.Balance.{IsUpToOneMore}
 use Rattle.weighted_tree.specs.Nodes.{nodes_of, part_of, node_items, node_count, IsSound}
 use Rattle.weighted_tree.proofs.InPlace.{root_of}
-use Rattle.weighted_tree.proofs.Levels.{level_left, level_right, counted_left, counted_right, counted_none, on_ok}
+use Rattle.weighted_tree.proofs.Levels.{level_left, level_right}
 use Rattle.weighted_tree.proofs.Middles.{insert-before, insert-after}
 use Rattle.weighted_tree.proofs.Told.{told_with}
 use Rattle.weighted_tree.proofs.subtree.Subtree.+insert_below.Goals as goal
@@ -23,7 +23,6 @@ returns-in_default g t c =
       none_lost = done.none_lost;
       some = done.some;
       none = done.none;
-      counted = on_ok _ (counted_none _ _ _ (omega (arith, leaf)) done.none_lost);
       visits = λ levels within. omega (arith, done.visits);
     })
 
@@ -123,15 +122,4 @@ returns-clause-visits g t c =
     elim c.if-place-before.branch [
       | then-place-before+in_ok-insert_below w ↦ level_left _ node _ _ _ _ root c.open_mut.ensures.visit (rw opened at w.insert_below.ensures.visits) (omega arith)
       | else-place-before+in_ok-insert_below-2 w ↦ level_right _ node _ _ _ _ root c.open_mut.ensures.visit (rw opened at w.insert_below-else-place-before.ensures.visits) (omega arith)
-    ]
-
-pub returns-clause-counted : goal.returns-clause-counted
-returns-clause-counted g t c =
-    let node = c.in-Full.closed.node.value in
-    let opened = c.deref_mut-node.ensures.value ∙ ap (λ b. b.value) c.open_mut.ensures.node in
-    let sound = subst (IsSound g.T.Measure.Monoid.unit_value g.T.Measure.Monoid.joined g.T.Measured.measured) c.in-Full.is c.self.invariant in
-    let root = root_of sound (sym (ap part_of c.in-Full.is) ∙ c.self.view_is) in
-    elim c.if-place-before.branch [
-      | then-place-before+in_ok-insert_below w ↦ counted_left _ node _ _ _ _ root (rw opened at w.in_ok-insert_below.ensures.counted) (omega arith)
-      | else-place-before+in_ok-insert_below-2 w ↦ counted_right _ node _ _ _ _ root (rw opened at w.in_ok-insert_below-2.ensures.counted) (omega arith)
     ]

@@ -3,7 +3,7 @@ use Rattle.std.specs.List.{remove}
 use Rattle.std.specs.Prelude.{slice_get, Some}
 use Rattle.weighted_tree.specs.Nodes.{nodes_of, part_of, node_items, IsSound}
 use Rattle.weighted_tree.proofs.InPlace.{root_of, node_of}
-use Rattle.weighted_tree.proofs.Levels.{level_left, level_right, counted_left, counted_right, counted_one, counted_none, few_nodes}
+use Rattle.weighted_tree.proofs.Levels.{level_left, level_right}
 use Rattle.weighted_tree.proofs.Middles.{get-before, get-middle, get-after, remove-before, remove-middle, remove-after, next-then-rest}
 use Rattle.weighted_tree.proofs.Told.{told_without}
 use Rattle.weighted_tree.proofs.subtree.Subtree.+remove_below.Goals as goal
@@ -20,7 +20,6 @@ returns-in_default g t c =
       shrinks = record { no_less = omega (arith, leaf, done.leaf); no_more = omega (arith, leaf, done.leaf) };
       few = omega (arith, leaf);
       some = omega (arith, done.visit);
-      counted = counted_none _ _ _ (omega (arith, leaf)) (omega (arith, done.visit));
       visits = λ levels within. omega (arith, done.visit);
     })
 
@@ -36,15 +35,6 @@ returns-else-len-gt0-clause-item g t c =
     ∙ ap (slice_get (node_items node)) place
     ∙ get-middle node.left.items node.right.items node.item
     ∙ ap Some (sym item_is)
-
-pub returns-else-len-gt0-clause-counted : goal.returns-else-len-gt0-clause-counted
-returns-else-len-gt0-clause-counted g t c =
-    let node = c.in-Full.closed.node.value in
-    let opened = c.deref_mut-node.ensures.value ∙ ap (λ b. b.value) c.open_mut.ensures.node in
-    let sound = subst (IsSound g.T.Measure.Monoid.unit_value g.T.Measure.Monoid.joined g.T.Measured.measured) c.in-Full.is c.self.invariant in
-    let root = root_of sound (sym (ap part_of c.in-Full.is) ∙ c.self.view_is) in
-    let none : node.right.nodes ≡ 0 = omega (arith, ap (λ n. n.right.nodes) opened, c.len.ensures.few, c.len.ensures.count) in
-    counted_one _ _ _ (few_nodes root none) (omega arith)
 
 pub settle_told-requires-clause-told : goal.settle_told-requires-clause-told
 settle_told-requires-clause-told g t c =
@@ -134,16 +124,4 @@ returns-clause-visits g t c =
       | then-place-before w ↦ level_left _ node _ _ _ _ root c.open_mut.ensures.visit (rw opened at w.remove_below-item.ensures.visits) (omega arith)
       | else-place-before+then-place-before-2 w ↦ level_right _ node _ _ _ _ root c.open_mut.ensures.visit (rw opened at w.remove_below.ensures.visits) (omega arith)
       | else-place-before+else-place-before-2+then-len-gt0 w ↦ level_right _ node _ _ _ _ root c.open_mut.ensures.visit (rw opened at w.remove_below-next.ensures.visits) (omega arith)
-    ]
-
-pub returns-clause-counted : goal.returns-clause-counted
-returns-clause-counted g t c =
-    let node = c.in-Full.closed.node.value in
-    let opened = c.deref_mut-node.ensures.value ∙ ap (λ b. b.value) c.open_mut.ensures.node in
-    let sound = subst (IsSound g.T.Measure.Monoid.unit_value g.T.Measure.Monoid.joined g.T.Measured.measured) c.in-Full.is c.self.invariant in
-    let root = root_of sound (sym (ap part_of c.in-Full.is) ∙ c.self.view_is) in
-    elim c.if-place-before.branch [
-      | then-place-before w ↦ counted_left _ node _ _ _ _ root (rw opened at w.remove_below-item.ensures.counted) (omega arith)
-      | else-place-before+then-place-before-2 w ↦ counted_right _ node _ _ _ _ root (rw opened at w.remove_below.ensures.counted) (omega arith)
-      | else-place-before+else-place-before-2+then-len-gt0 w ↦ counted_right _ node _ _ _ _ root (rw opened at w.remove_below-next.ensures.counted) (omega arith)
     ]

@@ -1,4 +1,0 @@
-use Rattle.checkpoint_full.proofs.full.FullRetro.insert.Given as goal
-
-abbrev pub ghosts-insert_uncounted : goal.ghosts-insert_uncounted
-ghosts-insert_uncounted g a = record { name = a.blank.name; parts = a.blank.parts }
