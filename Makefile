@@ -2,7 +2,7 @@
 #
 #   make try      answers a first script in front of you within a minute or two, by a trial build: it proves nothing, and leaves
 #                 no program. SCRIPT=FILE for another one; the tool reads its input whole first, so none can be typed
-#   make run      the same by the proved program, which it builds first: everything is proved, an hour on a small machine
+#   make run      the same by the proved program, which it builds first: all that it stands on is proved, an hour on a small machine
 #   make build    leaves the program at build/retro, so that `build/retro run < FILE` works on any script
 #   make check    proves one crate over what was proved before: make check CRATE=retro_queue
 #   make unit     runs the tests of the crates by a trial build with checks, some ten minutes, and proves nothing
@@ -13,6 +13,8 @@
 #   make bench    measures the program beside others and writes docs/MEASURED.md, in a quarter of an hour; needs
 #                 Python 3, and rustc for the others; QUICK=1 for a first look, which writes into build/
 #   make recipes  runs docs/RECIPES.md as it stands, and the client in Python with 100,000 lines
+#   make planted  outside the gate: tries the wrong bodies of tests/planted, which the prover must refuse; CRATE=NAME for those of one crate
+#   make integrations  outside the gate: what needs a browser, dask or PostgreSQL, each where it is there, and 1,000 kills of a journal's writer
 #   make hostile  outside the gate: forged evidence, drawn scripts and refused memory; needs Python 3 and cc
 
 SCRIPT ?= examples/late_job.script
@@ -20,7 +22,7 @@ PREFIX ?= /usr/local
 
 SOURCES := $(shell find crates -name out -prune -o -type f \( -name '*.rt' -o -name '*.antt' \) -print) crates.txt
 
-.PHONY: run try build said check unit fmt install test bench hostile recipes
+.PHONY: run try build said check unit fmt install test bench planted hostile recipes integrations
 
 run: said build
 	@echo
@@ -41,11 +43,11 @@ try:
 build: build/retro
 
 said:
-	@echo "First everything is proved and built, unless that was done: an hour on a small machine. \`make try\` proves nothing."
+	@echo "First all that the program stands on is proved and built, unless that was done: an hour on a small machine. \`make try\` proves nothing."
 
 # A program is built only once it is proved.
 build/retro: $(SOURCES)
-	@sh .ci/build
+	@python3 .ci/build
 
 check:
 	@cd crates/$(CRATE) && rt check
@@ -71,6 +73,12 @@ bench: said build
 recipes: said build
 	@python3 tests/client.py build/retro
 	@python3 tests/recipes.py build/retro
+
+planted: said build
+	@python3 tests/planted.py $(CRATE)
+
+integrations: said build
+	@python3 clients/python/tests/integrations.py build/retro
 
 hostile: said build
 	@python3 tests/hostile/forge.py build/retro

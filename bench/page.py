@@ -234,8 +234,8 @@ class Page:
         yield "## `pq` or `pqf`"
         yield ""
         yield from prose(
-            "Both answer alike. `pq` makes up to 31 checkpoints at the first question about its past, and from then on every edit goes",
-            "to each of them; `pqf` keeps pieces of the whole history from the first row on. Each cell has `pq` first, then `pqf`; the",
+            "Both answer alike. `pq` makes up to 31 checkpoints at the first question about its past, none at one about the present, and",
+            "from then on every edit goes to each of them; `pqf` keeps pieces of the whole history from the first row on. Each cell has `pq` first, then `pqf`; the",
             "last column names the one that takes less at {:,} rows, or both where they differ by less than a tenth.".format(self.main),
             "Look for the lines that your script has most of: before its past was asked the first two, and the others from the first",
             "such question on.")

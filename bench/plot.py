@@ -10,9 +10,9 @@ APART = 3  # pixels between the points of two programs at the same number of row
 STYLE = """<style>
   .paper { fill: #fff } text { fill: #202124 } .frame { fill: none; stroke: #9aa0a6 } .grid { stroke: #dadce0 } .missing { fill: #5f6368 }
   path.line { fill: none; stroke-width: 1.5 } path.retro { stroke-width: 2.5 }
-  .retro { stroke: #b3261e } .replay { stroke: #5f6368; stroke-dasharray: 2 3 } .same { stroke: #1a73e8; stroke-dasharray: 7 3 }
-  .best { stroke: #188038; stroke-dasharray: 10 3 2 3 } .sqlite { stroke: #b06000; stroke-dasharray: 4 4 }
-  circle { stroke-dasharray: none; fill: #fff; stroke-width: 1.5 }
+  .retro { stroke: #b3261e } .replay { stroke: #5f6368 } .same { stroke: #1a73e8 } .best { stroke: #188038 } .sqlite { stroke: #b06000 }
+  path.replay { stroke-dasharray: 2 3 } path.same { stroke-dasharray: 7 3 } path.best { stroke-dasharray: 10 3 2 3 }
+  path.sqlite { stroke-dasharray: 4 4 } circle { fill: #fff; stroke-width: 1.5 }
   @media (prefers-color-scheme: dark) {
     .paper, circle { fill: #1b1b1b } text { fill: #ddd } .frame { stroke: #777 } .grid { stroke: #3a3a3a } .missing { fill: #aaa }
     .retro { stroke: #f28b82 } .replay { stroke: #bdc1c6 } .same { stroke: #8ab4f8 } .best { stroke: #81c995 } .sqlite { stroke: #fcad70 }

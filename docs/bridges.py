@@ -4,7 +4,7 @@
 
 A row that adds a dead entry weighs 1, one that adds a survivor weighs 0, and one that takes weighs -1. The line is the
 sum of the weights up to each place, which is the number of dead entries that are held there; where it touches the ground the
-place is a bridge. The bridge that the evidence of the edit states has a ring, and the entry that the edit gains a colour.
+place is a bridge. The bridge that the evidence of the edit states has a ring, and the entry that the edit gains a colour, once it lives.
 """
 
 STEP, LEVEL, LEFT, GROUND, PANEL = 92, 34, 84, 132, 232
@@ -91,7 +91,7 @@ def panel(top, rows, new, stated, gained, title):
     for place, row in enumerate(rows):
         number, key = row
         what = "delmin" if key is None else f"ins {key}"
-        style = "new" if place == new else "gained" if number == gained else "dead" if weight(row, alive) == 1 else ""
+        style = "new" if place == new else "gained" if number == gained and number in alive else "dead" if weight(row, alive) == 1 else ""
         middle = x(place) + STEP // 2
         yield f'<text class="{style}" text-anchor="middle" x="{middle}" y="{ground + 44}">{what}</text>'
         yield f'<text class="small" text-anchor="middle" x="{middle}" y="{ground + 62}">{number}, weight {weight(row, alive)}</text>'

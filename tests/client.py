@@ -5,12 +5,15 @@
 
 PROGRAM is build/retro where none is named. What the lines answer is known without a replay: jobs come at the end and are taken in their
 order, and orders come and go at random times with rising keys. The last line says how many lines a second were answered, there and back,
-and how many where none waits for an answer.
+and how many where none waits for an answer; then how many plain lines a stream and a pipe written by hand answer. A stream that is less than an
+eighth as fast as the pipe fails; half as fast is meant, on a machine that does nothing else.
 """
 
 import os
 import random
+import subprocess
 import sys
+import threading
 import time
 
 ROOT = os.path.dirname(os.path.dirname(os.path.abspath(__file__)))
@@ -72,12 +75,40 @@ def one_by_one(retro):
     for line, wanted in lines():
         expect(line, wanted, list(retro.send(line).answers))
     saved = retro.save("jobs")
-    expect("a block", [], [row for row in retro.load(saved.renamed("copy")).rows() if row not in saved.rows])
+    expect("a block", list(saved.rows), retro.load(saved.renamed("copy")).rows())
 
 
 def in_a_stream(retro):
     for reply, (line, wanted) in zip(retro.stream(line for line, _ in lines()), lines()):
         expect(line, wanted, list(reply.answers))
+
+
+PLAIN = ["new q queue"] + ["q at %d enq %d" % (at, at) if at % 2 else "q ask size" for at in range(250_000)]
+
+
+def by_a_pipe(program):
+    """How many plain lines a second a pipe answers that a thread writes and a loop reads."""
+    began = time.monotonic()
+    with subprocess.Popen([program, "run"], stdin=subprocess.PIPE, stdout=subprocess.PIPE) as pipe:
+
+        def write():
+            for at in range(0, len(PLAIN), 1000):
+                pipe.stdin.write(("\n".join(PLAIN[at : at + 1000]) + "\n").encode())
+            pipe.stdin.close()
+
+        writer = threading.Thread(target=write)
+        writer.start()
+        expect("the lines of a pipe", len(PLAIN), sum(1 for _ in pipe.stdout))
+        writer.join()
+    return len(PLAIN) / (time.monotonic() - began)
+
+
+def by_a_stream(program):
+    """How many plain lines a second a stream answers."""
+    began = time.monotonic()
+    with Retro(program) as retro:
+        expect("the lines of a stream", len(PLAIN), sum(1 for _ in retro.stream(PLAIN)))
+    return len(PLAIN) / (time.monotonic() - began)
 
 
 def main():
@@ -90,6 +121,9 @@ def main():
         expect("the end", 1, retro.end())
         rates.append(LINES / (time.monotonic() - began))
     print("client: %d lines, %d a second one by one, %d a second in a stream" % (LINES, *rates))
+    pipe, stream = (max(way(program) for _ in range(3)) for way in (by_a_pipe, by_a_stream))
+    print("client: %d plain lines, %d a second by a pipe, %d by a stream: %.2f" % (len(PLAIN), pipe, stream, stream / pipe))
+    sys.exit(int(stream < pipe / 8))
 
 
 if __name__ == "__main__":

@@ -1,25 +1,25 @@
 """An editor: what is typed goes on a stack; steps are taken back and made once more, and a step of long ago is corrected."""
 
+from typing import List
+
 from retro import Refused, Retro
+
+
+def shown(letters: List[int]) -> str:
+    return "".join(map(chr, reversed(letters)))
+
 
 with Retro() as retro:
     text = retro.new("text", "stack")
     for second, letter in enumerate("rettro"):
-        text.at(second, "push %d" % ord(letter))
-
-    def shown(at=None):
-        return "".join(map(chr, reversed(text.ask("all", at=at))))
-
-    print(shown())
+        text.push(ord(letter), at=second)
     text.delete(3)  # one t too many, three keystrokes ago
-    print(shown(), "and at second 3 it was", shown(at=3))
+    print(shown(text.all()), "and at second 3 it was", shown(text.all(at=3)))
     text.undo()
-    print("undone:", shown())
+    print("undone:", shown(text.all()))
     text.redo()
-    print("redone:", shown())
-    text.at(9, "push %d" % ord("!"))
+    text.push(ord("!"), at=9)
     try:
         text.redo()
     except Refused as refused:
-        print("redo:", refused.cause)
-    print("letters with their rows:", [(row.number, chr(row.numbers[0])) for row in text.entries()][:2])
+        print(shown(text.all()), "and a redo:", refused.cause)

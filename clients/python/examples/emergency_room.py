@@ -1,30 +1,25 @@
 """An emergency room: the most urgent patient first, then who came first; an auditor judges the evidence of every edit."""
 
-import os
-import subprocess
+from typing import List
 
-from retro import Retro
+from retro import Retro, check
 
 MINUTES = 10_000  # a key is the urgency, and behind it the minute of arrival: ties go by arrival, however late an entry is made
 
 
-def arrival(urgency, minute):
-    return "ins %d" % (urgency * MINUTES + minute)
+def arrival(urgency: int, minute: int) -> int:
+    return urgency * MINUTES + minute
 
 
-evidence = []
+evidence: List[str] = []
 with Retro(evidence=evidence.append) as retro:
     room = retro.new("room", "pq")
-    bea = room.at(545, arrival(2, 545))
-    room.at(600, "delmin")
-    cyd = room.at(610, arrival(3, 610))
-    abe = room.at(530, arrival(2, 530))  # had come first, and was entered last
+    room.ins(arrival(2, 545), at=545)
+    room.delmin(at=600)
+    cyd = room.ins(arrival(3, 610), at=610)
+    abe = room.ins(arrival(2, 530), at=530)  # had come first, and was entered last
     print("seen at 600: the patient of row", room.takes()[2])
     print("the edit has changed:", abe.evidence[0].change, "row", abe.evidence[0].entry)
-    room.change(cyd.number, arrival(1, 610))  # graver than it had seemed
-    print("waiting:", [divmod(key, MINUTES) for key in room.ask("all")])
-    print("next:", room.row(room.entries()[0].number).time)
-
-program = os.environ.get("RETRO", "retro")
-judged = subprocess.run([program, "check"], input="\n".join(evidence) + "\n", stdout=subprocess.PIPE, encoding="ascii", check=True)
-print("the auditor:", judged.stdout.strip(), "of", len(evidence))
+    room.change(cyd.row, "ins %d" % arrival(1, 610))  # graver than it had seemed
+    print("waiting:", [divmod(key, MINUTES) for key in room.all()], "next:", room.row(room.entries()[0].number).time)
+print("the auditor accepts", sum(verdict.accepted is True for verdict in check(evidence)), "of", len(evidence))

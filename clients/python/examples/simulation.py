@@ -1,5 +1,7 @@
 """A simulation whose events are corrected, and whose past is asked after each correction: a `pqf`, in a stream."""
 
+from typing import List
+
 from retro import Retro, load_as_pqf
 
 STEPS = 2000
@@ -8,19 +10,13 @@ with Retro() as retro:
     events = retro.new("events", "pqf")
     filled = retro.stream("events at %d ins %d" % (step, step) for step in range(1, STEPS + 1))
     print("rows:", sum(not reply.refused for reply in filled))
-
-    def corrections():
-        """At each hundredth step an event that had been missed, and a question about the step before and the one behind."""
-        for step in range(100, STEPS, 100):
-            yield "events at %d ins %d" % (step, -step)
-            yield "events ask at %d min" % (step - 1)
-            yield "events ask at %d min" % (step + 1)
-
-    told = [reply.value for reply in retro.stream(corrections())]
-    print("before:", told[1], told[4], told[-2])
-    print("behind:", told[2], told[5], told[-1])
+    lines: List[str] = []
+    for step in range(100, STEPS, 100):  # an event that had been missed, and the steps on both sides of it
+        lines += ["events at %d ins %d" % (step, -step), *("events ask at %d min" % near for near in (step - 1, step + 1))]
+    told = [reply.value for reply in retro.stream(lines)]
+    print("before:", told[1], told[4], told[-2], "behind:", told[2], told[5], told[-1])
     saved = events.save()
 
 with Retro() as retro:
-    events, numbers = load_as_pqf(retro, saved)
-    print("the next day:", events.ask("min"), "row", numbers[STEPS + 1], "was", STEPS + 1, "and the last is", max(numbers.values()))
+    anew, numbers = load_as_pqf(retro, saved)
+    print("the next day:", anew.min(), "row", numbers[STEPS + 1], "was", STEPS + 1, "and the last is", max(numbers.values()))

@@ -6,23 +6,20 @@ import os
 import sys
 from typing import List, Optional, Sequence
 
-from .events import Names, Unreadable, script_of, table_of
+from . import looking
+from .errors import RetroError
+from .events import Names, name_within, script_of, table_of
+from .events import words_of as operations_of
 from .files import load_file, recover, write_whole
 from .grammar import lines_of
+from .looking import bytes_at
 from .picture import svg
 from .rows import LAST_TIME
 from .whole import Answered, annotated, answer, answer_divided
 
 
-def _bytes(path: str) -> bytes:
-    if path == "-":
-        return sys.stdin.buffer.read()
-    with open(path, "rb") as file:
-        return file.read()
-
-
 def _text(path: str) -> str:
-    return _bytes(path).decode("utf-8")
+    return bytes_at(path).decode("utf-8")
 
 
 def _status(answered: Answered) -> int:
@@ -32,33 +29,36 @@ def _status(answered: Answered) -> int:
 
 
 def annotate(given: argparse.Namespace) -> int:
-    answered = answer(lines_of(_bytes(given.script)), given.program)
+    answered = answer(lines_of(bytes_at(given.script)), given.program)
     for line in annotated(answered, given.refused):
         print(line)
     return _status(answered)
 
 
 def draw(given: argparse.Namespace) -> int:
-    sys.stdout.write(svg(load_file(given.saved), given.start, given.end))
+    names = Names.read(_text(given.names)) if given.names else None
+    sys.stdout.write(svg(load_file(given.saved), given.start, given.end, names))
     return 0
 
 
 def events(given: argparse.Namespace) -> int:
     place = given.names or given.table + ".names"
     names = Names.read(_text(place)) if os.path.exists(place) else Names()
-    words = dict(pair.split("=", 1) for pair in given.word)
+    words = operations_of(given.word)
     if given.back:
         sys.stdout.write(table_of(load_file(given.back), names, words))
         return 0
-    name = given.name or os.path.splitext(os.path.basename(given.table))[0]
+    name = given.name or name_within(os.path.splitext(os.path.basename(given.table))[0])
     script = script_of(_text(given.table), name, names, words)
+    for first, second in script.doubled:
+        print("events: line %d says what line %d says" % (second, first), file=sys.stderr)
     write_whole(place, names.text)
     print("\n".join(script.lines))
     return 0
 
 
 def pool(given: argparse.Namespace) -> int:
-    answered = answer_divided(lines_of(_bytes(given.log)), given.program, given.processes)
+    answered = answer_divided(lines_of(bytes_at(given.log)), given.program, given.processes)
     for reply in answered.replies:
         for text in reply.answers:
             print(text)
@@ -68,7 +68,7 @@ def pool(given: argparse.Namespace) -> int:
 
 
 def recovered(given: argparse.Namespace) -> int:
-    found = recover(_bytes(given.saved).decode("utf-8", "surrogateescape"))
+    found = recover(bytes_at(given.saved).decode("utf-8", "surrogateescape"))
     sys.stdout.write(found.saved.text)
     if found.whole:
         return 0
@@ -90,6 +90,7 @@ def words_of(arguments: Sequence[str]) -> argparse.Namespace:
     one.add_argument("saved")
     one.add_argument("--from", dest="start", type=int, default=0, metavar="TIME")
     one.add_argument("--to", dest="end", type=int, default=LAST_TIME, metavar="TIME")
+    one.add_argument("--names", help="the file of the names of a table")
     one.set_defaults(do=draw)
     one = commands.add_parser("events", help="a table of events with dates as a script, or a saved timeline as such a table")
     one.add_argument("table", help="CSV; the names stand in a file of this name with .names behind it")
@@ -105,6 +106,7 @@ def words_of(arguments: Sequence[str]) -> argparse.Namespace:
     one = commands.add_parser("recover", help="the rows of a half-written save that are surely whole, as a block that loads")
     one.add_argument("saved")
     one.set_defaults(do=recovered)
+    looking.add_to(commands)
     return parser.parse_args(arguments)
 
 
@@ -114,11 +116,11 @@ def main(arguments: Optional[List[str]] = None) -> int:
     if isinstance(sys.stdout, io.TextIOWrapper):
         sys.stdout.reconfigure(errors="backslashreplace")
     try:
-        return given.do(given)
+        return int(given.do(given))
     except BrokenPipeError:
         sys.stdout = open(os.devnull, "w")
         return 0
-    except (OSError, Unreadable, ValueError) as error:
+    except (OSError, RetroError, ValueError) as error:
         print("%s: %s" % (given.command, error), file=sys.stderr)
         return 2
 

@@ -3,48 +3,11 @@
 import re
 from typing import List, NamedTuple, Optional, Sequence, Tuple, Union
 
+from .errors import OutOfStep, Refused
 from .grammar import words
 from .rows import Saved
 
 Pair = Tuple[int, int]
-
-
-class Refused(Exception):
-    """A line that was refused, and has changed nothing.
-
-    `answer`: the whole answer. `cause`: its words without names and numbers, such as `at`, `syntax`, `no timeline`, `row`.
-    `number`, `time`: those of the row that could not be performed, or the number of the row that is not there.
-    `line`: the number of the script line that was refused, of a block the number of the row line that is bad.
-    `text`: the line, as it was sent. `row`, `why`: of a block the number of its bad row line, and that row line's own cause.
-    """
-
-    def __init__(self, answer: str, line: int = 0, text: str = "") -> None:
-        super().__init__("line %d: %s" % (line, answer) if line else answer)
-        self.answer, self.line, self.text = answer, line, text
-        self.number: Optional[int] = None
-        self.time: Optional[int] = None
-        self.row: Optional[int] = None
-        self.why: Optional[str] = None
-        said = answer.split(" ")[1:]
-        if said[0] == "row":
-            self.cause, self.row, self.why = "row", int(said[1]), said[2]
-        elif said[0] == "at":
-            self.cause, self.number, self.time = "at", int(said[1][1:]), int(said[2])
-        elif said[0] == "timelines":
-            self.cause = "timelines"
-        elif said[0] == "no":
-            self.cause = "no " + said[1]
-            self.number = int(said[2][1:]) if said[2].startswith("#") else None
-        else:
-            self.cause = " ".join(said)
-
-
-class Ended(Exception):
-    """The program has ended before the answer came, with this `status`: 4 a write failed, 5 no memory, 6 over 2^30 bytes of input."""
-
-    def __init__(self, status: int) -> None:
-        super().__init__("the program ended with status %d" % status)
-        self.status = status
 
 
 class Evidence(NamedTuple):
@@ -71,6 +34,13 @@ class Edit(NamedTuple):
 
     number: Optional[int]
     evidence: Tuple[Evidence, ...] = ()
+
+    @property
+    def row(self) -> int:
+        """The number of the row that it made. Errors: ValueError where it made none."""
+        if self.number is None:
+            raise ValueError("this edit has made no row")
+        return self.number
 
 
 class Taken(NamedTuple):
@@ -112,7 +82,9 @@ def _told(found: Sequence[bytes], text: str) -> Value:
         return None if text == "stays" else Taken(int(said[1][1:]), int(said[2]))
     if _question(found) == b"all":
         parts = [] if text == "empty" else text.split(" ")
-        return [_pair(part) for part in parts] if parts and ":" in parts[0] else [int(part) for part in parts]
+        if parts and ":" in parts[0]:
+            return [_pair(part) for part in parts]
+        return [int(part) for part in parts]
     if text == "none":
         return None
     return _pair(text) if ":" in text else int(text)
@@ -122,13 +94,19 @@ def value_of(line: bytes, answers: Sequence[str], number: int = 0) -> Value:
     """The answers to a line as a value; `number` is that of the line.
 
     An edit gives an `Edit`, `ask` a number, a list, a pair, a list of pairs or None, `fate` a `Taken` or None where the item stays, `save` a
-    `Saved`, `mute` the text of its report, a line without an answer None. Errors: `Refused`.
+    `Saved`, `mute` the text of its report, a line without an answer None. Errors: `Refused`; `OutOfStep` where no such line is answered so.
     """
     if not answers:
         return None
-    first = answers[0]
-    if first.startswith("refused"):
-        raise Refused(first, number, line.decode("utf-8", "surrogateescape"))
+    if answers[0].startswith("refused "):
+        raise Refused(answers[0], number, line.decode("utf-8", "surrogateescape"))
+    try:
+        return _value(line, answers[0], answers)
+    except (ValueError, IndexError):
+        raise OutOfStep("the line %r is answered by %r" % (line, answers[0])) from None
+
+
+def _value(line: bytes, first: str, answers: Sequence[str]) -> Value:
     if first.startswith("= "):
         return _told(words(line), first[2:])
     if first.startswith("edit "):
@@ -140,7 +118,11 @@ def value_of(line: bytes, answers: Sequence[str], number: int = 0) -> Value:
         return Saved.read("\n".join(answers) + "\n")
     if first == "ok":
         return Edit(None, tuple(evidence_of(text) for text in answers[1:]))
-    return Edit(int(first[4:])) if first.startswith("ok #") else first
+    if first.startswith("ok #"):
+        return Edit(int(first[4:]))
+    if first.startswith("report "):
+        return first
+    raise ValueError(first)
 
 
 class Reply(NamedTuple):

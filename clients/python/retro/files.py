@@ -4,7 +4,7 @@ import os
 import tempfile
 from typing import List, NamedTuple, Optional, Union
 
-from .rows import Row, Saved, header_of, row_of
+from .rows import Row, Saved, header_of, row_of, unadorned
 
 
 def write_whole(path: Union[str, "os.PathLike[str]"], text: str) -> None:
@@ -24,6 +24,11 @@ def write_whole(path: Union[str, "os.PathLike[str]"], text: str) -> None:
     except BaseException:
         os.unlink(beside)
         raise
+    sync_folder(place)
+
+
+def sync_folder(place: str) -> None:
+    """Sees that the name of a file is on the disk, where the system can. Errors: OSError."""
     if hasattr(os, "O_DIRECTORY"):
         folder = os.open(os.path.dirname(place), os.O_RDONLY | os.O_DIRECTORY)
         try:
@@ -48,12 +53,12 @@ def save_file(path: Union[str, "os.PathLike[str]"], saved: Saved) -> None:
 
 
 def load_file(path: Union[str, "os.PathLike[str]"]) -> Saved:
-    """Reads a saved timeline; a carriage return at the end of a line is no part of it.
+    """Reads a saved timeline; comments, and carriage returns at the ends of lines, are no part of it.
 
     Errors: OSError; ValueError where the file is not one whole block (`recover` has what is left of it).
     """
     with open(path, encoding="utf-8", errors="surrogateescape", newline="\n") as file:
-        return Saved.read(file.read().replace("\r\n", "\n"))
+        return Saved.read(file.read())
 
 
 class Recovered(NamedTuple):
@@ -70,29 +75,36 @@ class Recovered(NamedTuple):
     @property
     def whole(self) -> bool:
         """Whether all rows are there, and the block has its end."""
-        return self.cut in ("end", "end\n") and not self.missing
+        behind = (unadorned(line) for line in self.cut.split("\n"))
+        return next(filter(None, behind), "") == "end" and not self.missing
 
 
 def recover(text: str) -> Recovered:
     """The rows of a half-written save that are surely whole: those that end with a line feed, up to the first that is no row.
 
-    A last line without a line feed may be the beginning of another row, so it is cut off. Any first rows of a timeline can be performed,
-    so what was recovered loads. Errors: ValueError where the header is not whole.
+    Comments, and carriage returns at the ends of lines, are no part of it. A last line without a line feed may be the beginning of another row,
+    so it is cut off. Any first rows of a timeline can be performed, so what was recovered loads. Errors: ValueError where the header is not
+    whole.
     """
     lines = text.split("\n")
-    if len(lines) == 1:
-        raise ValueError("the header was cut off: %r" % text)
-    name, kind, next_number, count = header_of(lines[0])
+    first = next((at for at, line in enumerate(lines[:-1]) if unadorned(line)), len(lines) - 1)
+    if first == len(lines) - 1:
+        raise ValueError("the header was cut off: %r" % lines[-1])
+    name, kind, next_number, count = header_of(unadorned(lines[first]))
     rows: List[Row] = []
     numbers = set()
-    for line in lines[1:-1]:
-        try:
-            row = row_of(kind, line)
-        except ValueError:
-            break
-        if row.number in numbers or row.number >= next_number or (rows and row.time < rows[-1].time):
-            break
-        rows.append(row)
-        numbers.add(row.number)
-    cut = "\n".join(lines[len(rows) + 1 :])
+    passed = first + 1
+    for at, line in enumerate(lines[first + 1 : -1], first + 1):
+        plain = unadorned(line)
+        if plain:
+            try:
+                row = row_of(kind, plain)
+            except ValueError:
+                break
+            if row.number in numbers or row.number >= next_number or (rows and row.time < rows[-1].time):
+                break
+            rows.append(row)
+            numbers.add(row.number)
+            passed = at + 1
+    cut = "\n".join(lines[passed:])
     return Recovered(Saved(name, kind, next_number, tuple(rows)), None if count is None else count - len(rows), cut)

@@ -4,9 +4,9 @@ import bisect
 from typing import Dict, List, NamedTuple, Optional, Sequence, Tuple
 
 from .grammar import ROWS
+from .kinds import PriorityQueue
 from .process import Retro
 from .rows import Row, Saved, Table, lifetimes
-from .timeline import Timeline
 
 
 class Merged(NamedTuple):
@@ -74,7 +74,7 @@ def lines_anew(saved: Saved) -> Tuple[List[str], Dict[int, int]]:
     return lines, numbers
 
 
-def load_as_pqf(retro: Retro, saved: Saved, name: Optional[str] = None) -> Tuple[Timeline, Dict[int, int]]:
+def load_as_pqf(retro: Retro, saved: Saved, name: Optional[str] = None) -> Tuple[PriorityQueue, Dict[int, int]]:
     """Starts a `pqf` with the rows of a saved priority queue, and gives it with the map from old numbers to new ones.
 
     Every answer is the one that the saved timeline gives, but for the numbers. Cost: an edit a row. Errors: ValueError where it is no priority

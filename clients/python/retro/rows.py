@@ -6,7 +6,8 @@ import heapq
 import re
 from typing import Deque, Dict, Iterable, List, NamedTuple, Optional, Sequence, Tuple
 
-from .grammar import KINDS, NUMBERS, ROWS, is_header, is_name, words
+from .errors import OutOfStep, RetroError
+from .grammar import NUMBERS, is_header, is_name, words
 
 WORDS = {
     "queue": {"enq": 1, "deq": 0},
@@ -17,7 +18,7 @@ WORDS = {
 }
 PUTS = frozenset(("enq", "push", "pushl", "pushr", "put", "ins"))
 LAST_TIME = 2**64 - 1
-A_ROW = re.compile(r"#([0-9]{1,8}) ([0-9]{1,20}) (([a-z]+)((?: -?[0-9]{1,19})*))\Z")
+A_ROW = re.compile(r"#0*([0-9]{1,8}) 0*([0-9]{1,20}) (([a-z]+)((?: -?[0-9]+)*))\Z")
 
 
 class Row(NamedTuple):
@@ -38,7 +39,7 @@ class Row(NamedTuple):
         return tuple(int(word) for word in self.operation.split(" ")[1:])
 
 
-class Unperformed(ValueError):
+class Unperformed(RetroError, ValueError):
     """Rows that cannot all be performed: `row` is the first that cannot."""
 
     def __init__(self, row: Row) -> None:
@@ -51,7 +52,7 @@ def row_of(kind: str, line: str) -> Row:
     found = A_ROW.match(line)
     if found is None or WORDS[kind].get(found[4]) != found[5].count(" "):
         raise ValueError("no row of a %s: %r" % (kind, line))
-    row = Row(int(found[1]), int(found[2]), found[3])
+    row = Row(int(found[1]), int(found[2]), spelled(found[3].split(" ")) if " 0" in found[3] or " -0" in found[3] else found[3])
     if not 1 <= row.number < NUMBERS or row.time > LAST_TIME or any(not -(2**63) <= number < 2**63 for number in row.numbers):
         raise ValueError("a number out of its range: %r" % line)
     return row
@@ -74,12 +75,17 @@ class Saved(NamedTuple):
 
     @classmethod
     def read(cls, text: str) -> "Saved":
-        """The timeline of a block that `save` wrote, whole. Errors: ValueError where it is not that, or not all of it."""
-        name, kind, next_number, count = header_of(text.split("\n", 1)[0])
-        lines = text.split("\n")
-        if lines[-2:] != ["end", ""] or (count is not None and len(lines) - 3 != count):
-            raise ValueError("the block is not whole: %d lines, of which %s are to be rows" % (len(lines) - 1, count))
-        return cls(name, kind, next_number, tuple(row_of(kind, line) for line in lines[1:-2]))
+        """The timeline of a block, whole, as a script has it: with comments and lines without words, which are left out, and with CR LF.
+
+        Errors: ValueError where it is not that, or not all of it.
+        """
+        if not text.endswith("\n"):
+            raise ValueError("the block is not whole: its last line is %r" % text[text.rfind("\n") + 1 :])
+        lines = [plain for plain in map(unadorned, text.split("\n")) if plain]
+        name, kind, next_number, count = header_of(lines[0] if lines else "")
+        if lines[-1] != "end" or (count is not None and len(lines) - 2 != count):
+            raise ValueError("the block is not whole: %d lines, of which %s are to be rows" % (len(lines), count))
+        return cls(name, kind, next_number, tuple(row_of(kind, line) for line in lines[1:-1]))
 
     def renamed(self, name: str) -> "Saved":
         """The same timeline under another name. Errors: ValueError where that can be no name."""
@@ -88,14 +94,21 @@ class Saved(NamedTuple):
         return self._replace(name=name)
 
 
+def unadorned(line: str) -> str:
+    """A line of a block as `save` writes it: without the blanks around and between its words that it may have, and nothing of a comment."""
+    if line[-1:] == "\r":
+        line = line[:-1]
+    if line[:1] in ("", " ", ";") or line[-1] == " " or "  " in line:
+        line = " ".join(word for word in line.split(" ") if word)
+    return "" if line.startswith(";") else line
+
+
 def header_of(line: str) -> Tuple[str, str, int, Optional[int]]:
     """Name, kind, next number and number of rows of the first line of a block. Errors: ValueError where it is none."""
     found = words(line.encode("utf-8", "surrogateescape"))
     if not is_header(found):
         raise ValueError("no header of a block: %r" % line)
-    kind = found[2].decode()
-    assert kind in KINDS
-    return found[1].decode(), kind, int(found[4]), int(found[6]) if len(found) == 7 else None
+    return found[1].decode(), found[2].decode(), int(found[4]), int(found[6]) if len(found) == 7 else None
 
 
 class Table:
@@ -105,7 +118,7 @@ class Table:
     """
 
     def __init__(self, saved: Saved) -> None:
-        self.kind = saved.kind
+        self.name, self.kind = saved.name, saved.kind
         self.rows: List[Row] = list(saved.rows)
         self._times = [row.time for row in self.rows]
         self._of = {row.number: row for row in self.rows}
@@ -144,23 +157,26 @@ class Table:
 
     def follow(self, verb: str, said: Sequence[str], made: Optional[int]) -> None:
         """Makes the edit that an accepted line of a script with this verb made, whose row has the number `made`."""
-        if verb == "at":
-            self.put_at(Row(_made(made), int(said[2]), " ".join(said[3:])))
-        elif verb == "delete":
+        if verb == "delete":
             self.cut(int(said[2][1:]))
+            return
+        if made is None:
+            raise OutOfStep("an edit that makes a row says no number: %s" % " ".join(said))
+        if verb == "at":
+            self.put_at(Row(made, int(said[2]), spelled(said[3:])))
+            return
+        old = self._of[int(said[2][1:])]
+        if verb == "move":
+            self.cut(old.number)
+            self.put_at(Row(made, int(said[4]), old.operation))
         else:
-            old = self._of[int(said[2][1:])]
-            if verb == "move":
-                self.cut(old.number)
-                self.put_at(Row(_made(made), int(said[4]), old.operation))
-            else:
-                place = self.cut(old.number) if verb == "change" else self.place(old.number) + (verb == "after")
-                self.put(place, Row(_made(made), old.time, " ".join(said[3:])))
+            place = self.cut(old.number) if verb == "change" else self.place(old.number) + (verb == "after")
+            self.put(place, Row(made, old.time, spelled(said[3:])))
 
 
-def _made(number: Optional[int]) -> int:
-    assert number is not None, "an edit that makes a row has its number"
-    return number
+def spelled(operation: Sequence[str]) -> str:
+    """The words of an operation as `save` spells it: numbers without zeros in front."""
+    return " ".join([operation[0], *(str(int(number)) for number in operation[1:])])
 
 
 class Lifetime(NamedTuple):
@@ -170,7 +186,7 @@ class Lifetime(NamedTuple):
     taken: Optional[Row]
 
 
-class _Performed:
+class Performed:
     """What is there while rows are performed one after another: the rows that put it in."""
 
     def __init__(self, kind: str) -> None:
@@ -206,7 +222,7 @@ class _Performed:
 
 def lifetimes(kind: str, rows: Iterable[Row]) -> List[Lifetime]:
     """What becomes of what each row puts in, in the order of the rows; the whole is one performance. Errors: `Unperformed`."""
-    there = _Performed(kind)
+    there = Performed(kind)
     rows = list(rows)
     taken: Dict[int, Row] = {}
     for row in rows:
@@ -218,13 +234,13 @@ def lifetimes(kind: str, rows: Iterable[Row]) -> List[Lifetime]:
 
 def entries(kind: str, rows: Iterable[Row]) -> List[Row]:
     """The rows whose items are there after all of them, in the order of `ask all`. Errors: `Unperformed`."""
-    there = _Performed(kind)
+    there = Performed(kind)
     for row in rows:
         _perform(there, row)
     return there.all()
 
 
-def _perform(there: _Performed, row: Row) -> Optional[Row]:
+def _perform(there: Performed, row: Row) -> Optional[Row]:
     try:
         return there.perform(row)
     except (IndexError, KeyError):

@@ -1,10 +1,16 @@
 """The commands of `python3 -m retro`, and the installation."""
 
+import base64
+import hashlib
+import importlib.util
 import os
+import shutil
 import subprocess
 import sys
 import tempfile
+import time
 import unittest
+import zipfile
 
 HERE = os.path.dirname(os.path.abspath(__file__))
 
@@ -22,6 +28,7 @@ class Commands(unittest.TestCase):
     def retro(self, *words, status=0):
         command, pipe = [sys.executable, "-m", "retro", *words], subprocess.PIPE
         done = subprocess.run(command, cwd=self.folder, stdout=pipe, stderr=pipe, encoding="utf-8", check=False)
+        self.told = done.stderr
         self.assertEqual(done.returncode, status, done.stderr)
         return done.stdout
 
@@ -75,6 +82,15 @@ class Commands(unittest.TestCase):
         self.file("jobs.block", "timeline jobs queue next 4 rows 1\n#3 202603010805 enq 1\nend\n")
         self.assertEqual(self.retro("events", "jobs.csv", *words, "--back", "jobs.block"), "time,event,item\n2026-03-01 08:05,came,Anna\n")
 
+    def test_events_of_a_file_with_a_space(self):
+        self.file("my jobs.csv", "\ufefftime;event;item\n01.03.2026 08:05;enq;Anna\n01.03.2026 08:05;enq;Anna\n")
+        self.assertEqual(self.retro("events", "my jobs.csv"), "new my_jobs queue\n" + "my_jobs at 202603010805 enq 1\n" * 2)
+        self.assertEqual(self.told, "events: line 3 says what line 2 says\n")
+        self.retro("events", "my jobs.csv", "--word", "came", status=2)
+        self.assertEqual(self.told.count("\n"), 1)
+        self.assertIn("WORD=OPERATION", self.told)
+        self.retro("events", "my jobs.csv", "--name", "my jobs", status=2)
+
     def test_pool(self):
         log = "".join("new t%d queue\n; one\n" % n for n in range(20)) + "".join("t%d at 5 enq %d\nt%d ask all\n" % (n, n, n) for n in range(20)) + "what\nsave t3\n"
         self.file("log", log)
@@ -91,15 +107,64 @@ class Commands(unittest.TestCase):
 
 
 class Installation(unittest.TestCase):
-    def test_the_wheel_has_the_package(self):
-        """What `pip install` does with the build backend, and no network."""
-        folder = os.path.dirname(HERE)
-        with tempfile.TemporaryDirectory() as made:
-            build = "import building, sys; print(building.build_wheel(sys.argv[1]))"
-            wheel = os.path.join(made, self.said(folder, "-c", build, made))
-            load = "import sys; sys.path.insert(0, sys.argv[1]); import retro; print(retro.__file__)"
-            self.assertTrue(self.said(made, "-I", "-c", load, wheel).startswith(wheel))
+    FOLDER = os.path.dirname(HERE)
+
+    def setUp(self):
+        folder = tempfile.TemporaryDirectory()
+        self.addCleanup(folder.cleanup)
+        self.made = folder.name
+
+    def built(self, what, folder):
+        """Where the build backend leaves what `pip` asks it for."""
+        place = os.path.join(self.made, folder)
+        os.makedirs(place, exist_ok=True)
+        build = "import building, sys; print(getattr(building, sys.argv[1])(sys.argv[2]))"
+        return os.path.join(place, self.said(self.FOLDER, "-c", build, what, place))
 
     def said(self, folder, *words):
-        done = subprocess.run([sys.executable, *words], cwd=folder, stdout=subprocess.PIPE, encoding="utf-8", check=True)
+        environment = dict(os.environ, PIP_ROOT_USER_ACTION="ignore")
+        done = subprocess.run([sys.executable, *words], cwd=folder, env=environment, stdout=subprocess.PIPE, encoding="utf-8", check=True)
         return done.stdout.strip()
+
+    def test_the_wheel_has_the_package(self):
+        wheel = self.built("build_wheel", "wheel")
+        load = "import sys; sys.path.insert(0, sys.argv[1]); import retro; print(retro.__file__, retro.__version__)"
+        place, version = self.said(self.made, "-I", "-c", load, wheel).split()
+        self.assertTrue(place.startswith(wheel))
+        self.assertIn("-%s-" % version, os.path.basename(wheel))
+        with zipfile.ZipFile(wheel) as archive:
+            names = archive.namelist()
+            self.assertIn("retro/py.typed", names)
+            self.assertEqual({name for name in names if name.startswith("retro/")}, {"retro/" + name for name in os.listdir(os.path.join(self.FOLDER, "retro")) if "." in name})
+            info = os.path.dirname(next(name for name in names if name.endswith("/RECORD")))
+            self.assertIn("retro-client = retro.__main__:main", archive.read(info + "/entry_points.txt").decode())
+            record = [line.split(",") for line in archive.read(info + "/RECORD").decode().splitlines()]
+            self.assertEqual([name for name, _, _ in record], names)
+            for name, digest, size in record[:-1]:
+                body = archive.read(name)
+                told = base64.urlsafe_b64encode(hashlib.sha256(body).digest()).rstrip(b"=").decode()
+                self.assertEqual((digest, size), ("sha256=" + told, str(len(body))))
+
+    def test_the_same_sources_make_the_same_bytes(self):
+        made = {}
+        for what in ("build_wheel", "build_sdist", "build_editable"):
+            for folder in ("a", "b"):
+                with open(self.built(what, folder + what), "rb") as file:
+                    made.setdefault(what, set()).add(file.read())
+                time.sleep(1.1)
+        self.assertEqual({what: len(bodies) for what, bodies in made.items()}, dict.fromkeys(made, 1))
+
+    def test_an_editable_one_leads_here(self):
+        with zipfile.ZipFile(self.built("build_editable", "editable")) as archive:
+            self.assertEqual(archive.read("retro_client.pth").decode(), self.FOLDER + "\n")
+
+    @unittest.skipUnless(importlib.util.find_spec("pip"), "no pip here: an installation is not tried")
+    def test_an_installation_without_a_network(self):
+        copy = os.path.join(self.made, "copy")
+        shutil.copytree(self.FOLDER, copy, ignore=shutil.ignore_patterns("__pycache__"))
+        place = os.path.join(self.made, "place")
+        self.said(self.made, "-m", "pip", "install", "--no-index", "--quiet", "--disable-pip-version-check", "--target", place, copy)
+        environment = dict(os.environ, PYTHONPATH=place)
+        script = os.path.join(place, "bin", "retro-client")
+        done = subprocess.run([sys.executable, script, "recover", "none"], env=environment, stderr=subprocess.PIPE, encoding="utf-8", check=False)
+        self.assertEqual((done.returncode, done.stderr.split(":")[0]), (2, "recover"))

@@ -1,10 +1,18 @@
 """Conversations with the program: values, refusals, streams, and how they end."""
 
+import concurrent.futures
+import copy
+import io
+import multiprocessing
 import os
+import pickle
 import tempfile
 import unittest
 
-from retro import Edit, Ended, Refused, Retro, Saved, Taken, evidence_of
+from retro import (
+    Edit, Ended, OutOfStep, OutOfTurn, Refused, Retro, RetroError, Row, Saved, Taken, TimedOut, Unperformed, answer, evidence_of, value_of,
+)
+from retro.events import Unreadable
 
 PROGRAM = os.environ["RETRO"]
 
@@ -115,6 +123,93 @@ class Refusals(Conversation):
         self.retro.confirm()
 
 
+class Errors(unittest.TestCase):
+    def test_each_is_pickled_whole(self):
+        for error in (
+            Ended(5),
+            Ended(-9),
+            Refused("refused at #4 5", 7, "jobs at 5 deq"),
+            TimedOut(0.5),
+            OutOfTurn("a block is open"),
+            OutOfStep("no answer"),
+            Unperformed(Row(4, 5, "deq")),
+            Unreadable(3, "no date"),
+        ):
+            self.assertIsInstance(error, RetroError)
+            for again in (pickle.loads(pickle.dumps(error)), copy.copy(error)):
+                self.assertEqual((type(again), str(again), again.__dict__), (type(error), str(error), error.__dict__))
+
+    def test_a_pool_of_processes_hands_them_on(self):
+        with concurrent.futures.ProcessPoolExecutor(1, multiprocessing.get_context("spawn")) as pool:
+            self.assertEqual(pool.submit(ends).exception(60).status, 0)
+
+    def test_an_answer_of_another_program(self):
+        with Retro(["sh", "-c", "while read line; do echo Welcome; done"]) as retro:
+            self.assertRaises(OutOfStep, retro.line, "q ask size")
+            self.assertRaises(OutOfStep, retro.confirm)
+            self.assertRaises(OutOfStep, retro.new, "q", "queue")
+        with self.assertRaises(OutOfStep):
+            value_of(b"q ask size", ["= many"])
+
+    def test_what_cannot_be_pickled_says_so(self):
+        with Retro(PROGRAM) as retro:
+            self.assertRaises(TypeError, pickle.dumps, retro)
+
+
+def ends():
+    Retro("true").line("new q queue")
+
+
+class Arguments(Conversation):
+    def test_a_number_is_whole(self):
+        jobs = self.retro.new("jobs", "queue")
+        for call in (
+            lambda: jobs.at(10.9, "enq 5"),
+            lambda: jobs.at(1764320400123456789.0, "enq 5"),
+            lambda: jobs.at("10", "enq 5"),
+            lambda: jobs.after(1.0, "enq 5"),
+            lambda: jobs.before(None, "enq 5"),
+            lambda: jobs.delete(1.0),
+            lambda: jobs.move(1, 5.5),
+            lambda: jobs.move(1.0, 5),
+            lambda: jobs.change(1.0, "enq 5"),
+            lambda: jobs.fate(1.0),
+            lambda: jobs.ask("size", at=1.0),
+            lambda: jobs.over("size", 0.5, 9),
+            lambda: self.retro.send(5),
+            lambda: list(self.retro.stream(["; a", 5])),
+        ):
+            self.assertRaises(TypeError, call)
+        self.assertEqual((jobs.at(True, "enq 5").number, jobs.rows()), (1, [Row(1, 1, "enq 5")]))
+        self.retro.confirm()
+
+    def test_lines_of_a_text_and_of_a_file(self):
+        script = "new q queue\n; gr\u00fc\u00df\nq at 1 enq 5\r\nq ask size\n"
+        wanted = [("ok",), (), ("ok #1",), ("= 1",)]
+        with tempfile.TemporaryDirectory() as folder:
+            place = os.path.join(folder, "script")
+            with open(place, "w", encoding="utf-8", newline="") as file:
+                file.write(script)
+            with open(place, encoding="utf-8") as text, open(place, "rb") as binary:
+                for lines in (script, script.encode(), script[:-1], text, binary, io.StringIO(script), script.split("\n")[:-1]):
+                    kept = lines.seek(0) if hasattr(lines, "seek") else 0
+                    with Retro(PROGRAM) as retro:
+                        self.assertEqual([reply.answers for reply in retro.stream(lines)], wanted)
+                    if hasattr(lines, "seek"):
+                        lines.seek(kept)
+                    self.assertEqual([reply.answers for reply in answer(lines, PROGRAM).replies], wanted)
+
+    def test_calls_within_an_open_block(self):
+        jobs = self.retro.new("jobs", "queue")
+        list(self.retro.stream(["timeline q queue next 3", "#1 5 enq 4"]))
+        for call in (lambda: jobs.at(5, "enq 4"), jobs.undo, lambda: jobs.ask("size"), jobs.save, jobs.rows, self.retro.confirm, lambda: self.retro.new("r", "pq")):
+            with self.assertRaises(OutOfTurn) as caught:
+                call()
+            self.assertIn("block", str(caught.exception))
+        self.retro.line("end")
+        self.assertEqual((jobs.ask("size"), self.retro.line("q ask size")), (0, 1))
+
+
 class InStep(Conversation):
     """Each of these got a client out of step that goes by its language's idea of blanks, or by hope."""
 
@@ -149,7 +244,7 @@ class InStep(Conversation):
 
     def test_a_text_that_is_no_block_is_not_sent(self):
         for text in (
-            "; saved\ntimeline q queue next 1\nend\n",
+            "; saved\nq queue next 1\nend\n",
             "timeline q heap next 1\nend\n",
             "timeline q queue next 3 rows 2\n#1 5 enq 3\nend\n",
             "timeline q queue next 3\n#1 5 enq 3",

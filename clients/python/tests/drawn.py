@@ -12,6 +12,7 @@ import unittest
 
 import second_bench
 from retro import Retro, answer, answer_divided
+from retro.grammar import opens
 
 PROGRAM = os.environ["RETRO"]
 LINES = int(os.environ["DRAWN_LINES"])
@@ -127,14 +128,15 @@ class Judged(unittest.TestCase):
         while sent < LINES:
             start += 1
             script = Drawn(random.Random(start), 6).script(OF_A_PROCESS)
+            within = False
             with Retro(PROGRAM) as retro:
                 for reply in retro.stream(script):
                     sent += 1
                     if reply.line.startswith(b"z") and reply.line.endswith(b" ask size"):
                         asked += 1
-                        self.right(reply, not reply.answers and retro._reader.block is not None)
-                block = retro._reader.block
-            self.assertEqual(len(retro.reports), int(block is not None))
+                        self.right(reply, within)
+                    within = opens(within, [reply.line])
+            self.assertEqual(len(retro.reports), int(within))
             self.assertLess(retro.status, 2)
         self.assertGreater(asked, LINES / 20)
         print("drawn: %d lines in %d processes, %d of them questions that repeat their name, %.0f seconds" % (sent, start, asked, time.monotonic() - began))

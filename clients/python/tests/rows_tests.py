@@ -1,4 +1,4 @@
-"""Rows, lifetimes, files, merges, pictures and tables of events."""
+"""Rows, lifetimes, files and merges."""
 
 import os
 import random
@@ -7,8 +7,7 @@ import tempfile
 import unittest
 from unittest import mock
 
-from retro import Recovered, Refused, Retro, Row, Saved, Unperformed, lines_anew, load_as_pqf, load_file, merge, recover, save_file, svg, write_whole
-from retro.events import Names, Unreadable, date_of, script_of, table_of, time_of
+from retro import Recovered, Refused, Retro, Row, Saved, Unperformed, lines_anew, load_as_pqf, load_file, merge, recover, save_file
 
 PROGRAM = os.environ["RETRO"]
 KINDS = {
@@ -75,6 +74,17 @@ class Rows(unittest.TestCase):
             self.assertEqual(jobs.over("size", 15, 30), [(15, 1), (20, 2), (25, 1), (30, 2)])
             self.assertEqual(jobs.over("front", 0, 24), [(0, None), (10, 10)])
 
+    def test_numbers_are_spelled_as_a_save_spells_them(self):
+        with Retro(PROGRAM) as retro:
+            jobs = retro.new("jobs", "queue")
+            jobs.rows()
+            jobs.at(10, "enq  007")
+            retro.line("jobs at 0010 enq -0")
+            jobs.after(1, "enq -08")
+            jobs.change(1, "enq 00")
+            self.assertEqual(tuple(jobs.rows()), jobs.save().rows)
+            self.assertEqual([row.operation for row in jobs.rows()], ["enq 0", "enq -8", "enq 0"])
+
     def test_who_took_what(self):
         with Retro(PROGRAM) as retro:
             jobs = retro.load("timeline jobs queue next 6\n#5 5 enq 100\n#1 10 enq 101\n#2 20 enq 102\n#3 30 deq\n#4 40 deq\nend\n")
@@ -121,14 +131,25 @@ class Files(unittest.TestCase):
 
     def test_what_stands_behind_a_bad_row_is_not_kept(self):
         high = "#2 20 ins 9223372036854775808"
-        for bad in ("#2 20 ins", "#2 20 ins +1", "#2 20 ins 1_0", "#2 20 ins 1\r", "#2 20 ins 1 ", "+2 20 ins 1", "#2 20 enq 1", "#2 5 ins 1", "#1 20 ins 1", "#9 20 ins 1", high, "\u00b2", "#2  20 ins 1"):
+        for bad in ("#2 20 ins", "#2 20 ins +1", "#2 20 ins 1_0", "+2 20 ins 1", "#2 20 enq 1", "#2 5 ins 1", "#1 20 ins 1", "#9 20 ins 1", high, "\u00b2", "#2 20 ins 1\t"):
             found = recover("timeline q pq next 9\n#1 10 ins 4\n%s\n#3 30 delmin\nend\n" % bad)
             self.assertEqual(found, Recovered(saved("pq", 9, (1, 10, "ins 4")), None, bad + "\n#3 30 delmin\nend\n"))
 
     def test_a_file_with_carriage_returns(self):
+        text = "timeline q queue next 2 rows 1\r\n#1 10 enq 5\r\nend\r\n"
         with open(self.place, "w", newline="") as file:
-            file.write("timeline q queue next 2 rows 1\r\n#1 10 enq 5\r\nend\r\n")
-        self.assertEqual(load_file(self.place), saved("queue", 2, (1, 10, "enq 5")))
+            file.write(text)
+        whole = saved("queue", 2, (1, 10, "enq 5"))
+        self.assertEqual((load_file(self.place), recover(text).saved, recover(text).whole), (whole, whole, True))
+        self.assertEqual(recover(text[:-7]), Recovered(saved("queue", 2), 1, "#1 10 enq 5"))
+
+    def test_a_block_with_comments(self):
+        text = "; Monday\n\n timeline q  queue next 09 rows 2\n; the first\n  #01 10 enq 007\n\n#2 010  enq -0 \r\n;\nend \n; end\n"
+        whole = saved("queue", 9, (1, 10, "enq 7"), (2, 10, "enq 0"))
+        self.assertEqual((Saved.read(text), recover(text).saved, recover(text).whole), (whole, whole, True))
+        with Retro(PROGRAM) as retro:
+            self.assertEqual(retro.load(text).save(), whole)
+        self.assertEqual(recover(text[:62]), Recovered(saved("queue", 9), 2, "; the first\n  #01 "))
 
     def test_a_text_that_is_not_one_block(self):
         for text in ("", " rows 1\nend\n", "\nend", "\n", "\nend\nend\n"):
@@ -180,77 +201,3 @@ class AsPqf(unittest.TestCase):
     def test_a_queue_is_none(self):
         with Retro(PROGRAM) as retro:
             self.assertRaises(ValueError, load_as_pqf, retro, saved("queue", 1))
-
-
-class Pictures(unittest.TestCase):
-    DAY = saved("queue", 5, (1, 10, "enq 5"), (2, 20, "enq 6"), (3, 30, "deq"), (4, 90, "deq"))
-
-    def test_a_bar_for_each_entry(self):
-        drawn = svg(self.DAY)
-        self.assertEqual(drawn.count("<rect"), 2)
-        for said in ("#1 at 10: enq 5, #3 at 30: deq", "#2 at 20: enq 6, #4 at 90: deq", "prefers-color-scheme: dark", ">queue q, from 10 to 90<"):
-            self.assertIn(said, drawn)
-
-    def test_a_stretch(self):
-        self.assertEqual(svg(self.DAY, 40, 60).count("<rect"), 1)
-        self.assertEqual(svg(self.DAY, 91).count("<rect"), 0)
-
-    def test_many_entries(self):
-        drawn = svg(Saved("q", "queue", 101, tuple(Row(n, n, "enq 1") for n in range(1, 101))))
-        self.assertEqual(drawn.count("<rect"), 60)
-        self.assertIn("40 more are not drawn", drawn)
-
-
-class Events(unittest.TestCase):
-    def test_a_queue_and_back(self):
-        table = "time,event,item\n2026-03-01 08:05,came,Anna\n2026-03-01 08:40,came,Ben\n2026-03-01 09:00,taken,\n2026-03-02 00:00,came,Anna\n"
-        names, said = Names(), {"came": "enq", "taken": "deq"}
-        script = script_of(table, "jobs", names, said)
-        rows = ["202603010805 enq 1", "202603010840 enq 2", "202603010900 deq", "202603020000 enq 1"]
-        lines = ["new jobs queue"] + ["jobs at " + row for row in rows]
-        self.assertEqual((script.kind, script.lines, names.names), ("queue", lines, {1: "Anna", 2: "Ben"}))
-        with Retro(PROGRAM) as retro:
-            list(retro.stream(script.lines))
-            self.assertEqual(table_of(retro.save("jobs"), Names.read(names.text), said), table)
-
-    def test_composite_keys(self):
-        day = ["08:05,ins,2,Anna", "08:05,ins,2,Ben", "08:01,ins,2,Eva", "09:00,delmin,,"]
-        table = "time,event,priority,item\n" + "".join("2026-03-01 %s\n" % event for event in day)
-        names = Names()
-        script = script_of(table, "er", names)
-        rows = ["202603010805 ins 220260301080500", "202603010805 ins 220260301080501", "202603010801 ins 220260301080100"]
-        self.assertEqual(script.lines[1:4], ["er at " + row for row in rows])
-        with Retro(PROGRAM) as retro:
-            list(retro.stream(script.lines))
-            self.assertEqual([names.names[key] for key in retro.line("er ask all")], ["Anna", "Ben"])
-            back = table_of(retro.save("er"), names)
-            self.assertEqual(sorted(back.splitlines()), sorted(table.splitlines()))
-        self.assertEqual(script_of(table, "er", names).lines[1][-2:], "00")
-
-    def test_a_dictionary(self):
-        table = "time,event,key,value\n2026-03-01 08:05,put,meter 12,310\n2026-03-09 08:05,del,meter 12,\n"
-        names = Names({7: "meter 12"})
-        script = script_of(table, "water", names)
-        self.assertEqual(script.lines[1:], ["water at 202603010805 put 7 310", "water at 202603090805 del 7"])
-        with Retro(PROGRAM) as retro:
-            list(retro.stream(script.lines))
-            self.assertEqual(table_of(retro.save("water"), names), table)
-
-    def test_dates(self):
-        self.assertEqual((time_of("2026-02-28T23:59"), date_of(202602282359)), (202602282359, "2026-02-28 23:59"))
-        for bad in ("2026-02-29 10:00", "2026-1-01 10:00", "2026-01-01 24:00", "2026-01-01", "2026-01-01 10:00:30", ""):
-            self.assertRaises(ValueError, time_of, bad)
-        self.assertRaises(ValueError, date_of, 202602292359)
-
-    def test_tables_that_say_nothing(self):
-        for table, line in (
-            ("time,event,item\n2026-03-01 08:05,enq,Anna\n2026-03-01 08:65,deq,\n", 3),
-            ("time,event,item\n2026-03-01 08:05,enq,Anna\n2026-03-01 08:05,pop,\n", 3),
-            ("time,event\n2026-03-01 08:05,enq\n", 2),
-            ("time,event,priority,item\n2026-03-01 08:05,ins,high,Anna\n", 2),
-            ("time,event,priority,item\n2026-03-01 08:05,ins,92001,Anna\n", 2),
-            ("time,event,item\n", 1),
-        ):
-            with self.assertRaises(Unreadable) as caught:
-                script_of(table, "q", Names())
-            self.assertEqual(caught.exception.line, line)

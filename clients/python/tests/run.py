@@ -15,7 +15,11 @@ import unittest
 HERE = os.path.dirname(os.path.abspath(__file__))
 ROOT = os.path.dirname(os.path.dirname(os.path.dirname(HERE)))
 LIMIT = 600  # seconds, after which a test that waits for an answer ends the run
-MODULES = ("grammar_tests", "conversation_tests", "rows_tests", "command_tests", "drawn", "example_tests")
+MODULES = (
+    "grammar_tests", "batches_tests", "conversation_tests", "rows_tests", "events_tests", "picture_tests", "command_tests", "typing_tests",
+    "interruption_tests", "asynchronous_tests", "drawn", "example_tests", "explain_tests", "checking_tests", "looking_tests", "journal_tests",
+    "table_tests", "page_tests", "cluster_tests",
+)
 
 
 def main() -> None:
