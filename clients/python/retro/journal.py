@@ -15,9 +15,9 @@ from typing import IO, Callable, Deque, Dict, Generator, Iterable, Iterator, Lis
 from .answers import Reply
 from .channel import Program
 from .conversation import Line, Sent, bytes_of, joined
-from .errors import OutOfTurn
+from .errors import Ended, OutOfTurn
 from .grammar import STEPS, is_header, lines_of, words
-from .journal_file import HEADING, Differs, Entry, Full, Unwritten, entries_of, kept, locked, put_in_place, write
+from .journal_file import HEADING, Differs, Entry, Full, JournalFile, Unwritten, entries_of, kept
 from .process import Retro, lines_within
 from .rows import Saved, Table
 from .timeline import Timeline
@@ -97,11 +97,12 @@ class Journal(Retro):
         self._writing = threading.RLock()
         self._grouped = 0
         self._failed: Optional[Unwritten] = None
-        self._file = locked(self.path)
+        self._behind: Optional[List[bytes]] = None
+        self._file = JournalFile(self.path)
         try:
             self._begin([])
         except BaseException:
-            self._let_go()
+            self._file.close()
             raise
 
     def __enter__(self) -> "Journal":
@@ -112,30 +113,37 @@ class Journal(Retro):
         """The timelines, with the kinds that they were begun with."""
         return dict(self._steps.kinds)
 
-    def _begin(self, held: Iterable[bytes]) -> None:
-        """Starts a process, performs the journal in it, and begins the block that was open. What is torn is cut off first."""
+    def _begin(self, held: List[bytes]) -> None:
+        """Starts a process, performs the journal in it, and begins the block that was open. What is torn is cut off first.
+
+        `_behind` has the lines of that block, and not None, as long as the process is behind what was answered: then the next call begins anew.
+        """
         listeners = self.listeners if hasattr(self, "_talk") else []
+        self._behind = held
+        self._file.settle()
         torn = self._started()
         if torn is not None:
             super().kill()
             self._cut_off(torn)
             self._started()
         for line in held:
-            super()._send(line, False)
+            with self._lock:
+                self._keep(super()._exchange([line], line + b"\n", False).replies())
         self.listeners[:] = listeners
-        self._behind = False
+        self._behind = None
 
     def _started(self) -> Optional[int]:
         """Starts a process and performs the journal in it. Gives the byte from which on it is torn, and then the process is of no use."""
         super().__init__(self._command, timeout=self._patience)
         self._steps, self._sent, self._length = _Steps(), 0, len(HEADING)
         self._held: List[bytes] = []
-        self._behind = True
         try:
-            return self._perform_all()
+            torn = self._perform_all()
         except BaseException:
             super().kill()
             raise
+        self._on_disk = self._length
+        return torn
 
     def _perform_all(self) -> Optional[int]:
         """Performs what the file has; gives the byte from which on it is torn. Errors: `Differs`."""
@@ -147,13 +155,11 @@ class Journal(Retro):
                 waiting.append(entry)
                 yield from () if entry.torn else entry.lines
 
-        with open(os.dup(self._file), "rb") as file:
-            file.seek(0)
-            with contextlib.closing(super().stream(sent(file))) as replies:
-                for reply in replies:
-                    self._sent += len(reply.line) + 1
-                    if reply.answers:
-                        torn = self._compare(waiting.popleft(), reply)
+        with self._file.read() as file, contextlib.closing(super().stream(sent(file))) as replies:
+            for reply in replies:
+                self._sent += len(reply.line) + 1
+                if reply.answers:
+                    torn = self._compare(waiting.popleft(), reply)
         return waiting[0].start if waiting else torn
 
     def _compare(self, entry: Entry, reply: Reply) -> Optional[int]:
@@ -169,12 +175,10 @@ class Journal(Retro):
 
     def _cut_off(self, start: int) -> None:
         """Takes the torn end off the file."""
-        with open(os.dup(self._file), "rb") as file:
-            file.seek(start)
+        with self._file.read(start) as file:
             self.cut = file.read()
         LOG.warning("%s: a last entry that was not whole was cut off: %r", self.path, self.cut)
-        os.ftruncate(self._file, start)
-        os.fsync(self._file)
+        self._file.cut(start)
 
     def _room(self, lines: Sequence[bytes]) -> None:
         """Sees that these lines can be sent and kept. Begins a new process where this one has read too much, has ended, or was interrupted."""
@@ -184,22 +188,22 @@ class Journal(Retro):
         count = sum(map(len, lines)) + len(lines)
         if edits and self._length + sum(len(line) + OF_AN_ANSWER for line in edits + self._held) > self.most:
             raise Full(self.path, self.most)
-        if self._file >= 0 and (self._behind or self.status is not None or self._sent + count > self.most):
+        if self._file.is_open and (self._behind is not None or self.status is not None or self._sent + count > self.most):
             super().kill()
-            self._begin(self._held)
+            self._begin(self._held if self._behind is None else self._behind)
             if self._sent + count > self.most:
                 raise Full(self.path, self.most)
 
     def _exchange(self, lines: List[bytes], data: bytes, is_whole: bool, keeps: Optional[str] = None) -> Sent:
         """Sends lines, and writes what was accepted of them. Where that does not come to its end, none of them counts."""
-        self._behind = True
+        self._behind = self._held
         try:
             sent = super()._exchange(lines, data, is_whole, keeps)
         except OutOfTurn:
-            self._behind = False  # nothing was sent
+            self._behind = None  # nothing was sent
             raise
         self._keep(sent.replies())
-        self._behind = False
+        self._behind = None
         return sent
 
     def _exchange_one(self, line: bytes) -> Optional[Reply]:
@@ -244,14 +248,15 @@ class Journal(Retro):
 
     @contextlib.contextmanager
     def group(self) -> Iterator[None]:
-        """Lines that are sent within are on the disk at its end, all of them by one `fsync`."""
+        """Lines that are sent within are on the disk at its end, all of them by one `fsync`. Errors: `Unwritten`, and then none of them counts."""
         with self._writing:
             self._grouped += 1
             try:
                 yield
             finally:
                 self._grouped -= 1
-                self._append(b"")
+                if self._file.is_open:
+                    self._append(b"", not self._grouped)
 
     def _take(self, reply: Reply) -> List[bytes]:
         """What is written of a line with its answers: nothing, or the line, or at the end of a block all of it."""
@@ -274,23 +279,22 @@ class Journal(Retro):
         """Writes what was accepted."""
         written = [line + b"\n" for reply in replies for line in self._take(reply)]
         if written:
-            self._append(b"".join(written))
+            self._append(b"".join(written), not self._grouped)
 
-    def _append(self, data: bytes) -> None:
-        """Writes at the end, and waits for the disk. Errors: `Unwritten`, and then the file is as long as before."""
+    def _append(self, data: bytes, is_synced: bool) -> None:
+        """Writes at the end, and waits for the disk, or not yet. Errors: `Unwritten`, and then the file has what was on the disk before."""
         try:
-            write(self._file, data)
-            if self.fsync and not self._grouped:
-                os.fsync(self._file)
+            self._file.append(data, is_synced and self.fsync)
         except OSError as reason:
             self._failed = Unwritten(self.path, str(reason))
             with contextlib.suppress(OSError):
-                os.ftruncate(self._file, self._length)
-                os.fsync(self._file)
+                self._file.cut(self._on_disk)
             self._kill()
-            self._let_go()
+            self._file.close()
             raise self._failed from reason
         self._length += len(data)
+        if is_synced:
+            self._on_disk = self._length
 
     def compact(self) -> Compacted:
         """Writes the journal anew, as the timelines that stand now: rows keep their numbers, and no step of before can be undone.
@@ -304,25 +308,28 @@ class Journal(Retro):
             self._room([])
             before, old = self._length, self._steps
             saves = [self.save(name).text for name in old.kinds]
-            replies = answer(lines_of("".join(saves).encode("ascii")), self._command).replies
-            old_file, self._file = self._file, put_in_place(self.path, HEADING + b"".join(map(kept, replies)))
-            os.close(old_file)
+            answered = answer(lines_of("".join(saves).encode("ascii")), self._command)
+            if answered.status != 0:
+                raise Ended(answered.status)
+            self._behind = []  # whatever stops this, the next call begins with the file that stands at the path then
+            try:
+                self._file.replace(HEADING + b"".join(map(kept, answered.replies)))
+            finally:
+                self._file.settle()
             super().kill()
             self._begin([])
             steps = {name: old.done[name] + old.undone[name] for name in old.kinds}
             return Compacted(before, self._length, steps, tuple(name for name, kind in old.kinds.items() if kind == "pqf"))
 
     def end(self) -> int:
-        """Ends the process and closes the journal, for another writer to open. A second call does no more."""
+        """Ends the process and closes the journal, for another writer to open. A second call does no more. Errors: those of `Retro.end`."""
         with self._writing:
-            status = super().end()
-            self._let_go()
-            return status
-
-    def _let_go(self) -> None:
-        if self._file >= 0:
-            os.close(self._file)
-            self._file = -1
+            try:
+                if self._file.is_open and self._on_disk < self._length:
+                    self._append(b"", True)
+                return super().end()
+            finally:
+                self._file.close()
 
 
 def _asks(said: List[bytes]) -> bool:

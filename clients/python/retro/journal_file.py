@@ -1,8 +1,10 @@
 """The file of a journal: its entries, its heading, its lock, and what can be wrong with it."""
 
+import contextlib
 import os
 import time
-from typing import Iterable, Iterator, List, NamedTuple, Tuple
+import weakref
+from typing import IO, Iterable, Iterator, List, NamedTuple, Tuple
 
 from .answers import Reply
 from .errors import RetroError
@@ -126,6 +128,87 @@ def kept(reply: Reply) -> bytes:
     return b"".join(line + b"\n" for line in (reply.line, *(b"; " + answer.encode("ascii") for answer in reply.answers)))
 
 
+class JournalFile:
+    """The file of a journal, open and locked for its one writer; it is let go where this is dropped, and in a process that is forked off.
+
+    While it is written anew there are two. Whatever stops that, `settle` keeps the one that stands at the path.
+    """
+
+    def __init__(self, path: str) -> None:
+        self.path = path
+        self._files: List[int] = []
+        self._closing = weakref.finalize(self, _close, self._files)
+        _open.add(self)
+        _locked(path, self._files)
+
+    @property
+    def is_open(self) -> bool:
+        """Whether it can be written to."""
+        return bool(self._files)
+
+    def read(self, start: int = 0) -> IO[bytes]:
+        """What stands in it from a byte on, to be closed by the caller."""
+        file = open(os.dup(self._files[0]), "rb")
+        file.seek(start)
+        return file
+
+    def append(self, data: bytes, is_synced: bool) -> None:
+        """Writes at the end, and waits for the disk where that is asked for. Errors: OSError."""
+        write(self._files[0], data)
+        if is_synced:
+            os.fsync(self._files[0])
+
+    def cut(self, length: int) -> None:
+        """Takes away what stands behind so many bytes. Errors: OSError."""
+        os.ftruncate(self._files[0], length)
+        os.fsync(self._files[0])
+
+    def replace(self, data: bytes) -> None:
+        """Writes another file beside this one, and puts it in its place when it is whole. Errors: OSError; behind it stands `settle`."""
+        beside = self.path + ".new"
+        with contextlib.suppress(FileNotFoundError):
+            os.unlink(beside)  # one that was left when its writer was killed
+        flags = os.O_RDWR | os.O_CREAT | os.O_EXCL | os.O_APPEND
+        self._files.extend(map(os.open, (beside,), (flags,), (os.stat(self.path).st_mode & 0o777,)))
+        _lock(self._files[1], beside)
+        write(self._files[1], data)
+        os.fsync(self._files[1])
+        os.replace(beside, self.path)
+        sync_folder(self.path)
+
+    def settle(self) -> None:
+        """Keeps of two files the one that stands at the path."""
+        if len(self._files) > 1:
+            if os.path.samestat(os.fstat(self._files[1]), os.stat(self.path)):
+                self._files.reverse()
+            else:
+                with contextlib.suppress(FileNotFoundError):
+                    os.unlink(self.path + ".new")
+            os.close(self._files.pop())
+
+    def close(self) -> None:
+        """Lets it go, for another writer to open. A second call does no more."""
+        self._closing()
+
+
+_open: "weakref.WeakSet[JournalFile]" = weakref.WeakSet()
+
+
+def _close(files: List[int]) -> None:
+    while files:
+        os.close(files.pop())
+
+
+def _leave() -> None:
+    """In a process that was forked off: lets the files go, which would stay locked as long as that process lives."""
+    for file in list(_open):
+        file.close()
+
+
+if hasattr(os, "register_at_fork"):
+    os.register_at_fork(after_in_child=_leave)
+
+
 def write(file: int, data: bytes) -> None:
     """Writes all of it. Errors: OSError."""
     at = 0
@@ -133,21 +216,21 @@ def write(file: int, data: bytes) -> None:
         at += os.write(file, data[at:])
 
 
-def locked(path: str) -> int:
+def _locked(path: str, files: List[int]) -> None:
     """Opens a journal for the one who may write; where there is none it is made. Errors: `Busy`; `NoJournal`; OSError."""
     while True:
-        file = os.open(path, os.O_RDWR | os.O_CREAT | os.O_APPEND, 0o666)
+        files.extend(map(os.open, (path,), (os.O_RDWR | os.O_CREAT | os.O_APPEND,), (0o666,)))
         try:
-            _lock(file, path)
-            if os.fstat(file).st_ino == os.stat(path).st_ino:
-                _see_heading(file, path)
-                return file
+            _lock(files[0], path)
+            if os.path.samestat(os.fstat(files[0]), os.stat(path)):
+                _see_heading(files[0], path)
+                return
         except FileNotFoundError:
             pass  # it was renamed away between the two looks at it
         except BaseException:
-            os.close(file)
+            _close(files)
             raise
-        os.close(file)
+        _close(files)
 
 
 def _lock(file: int, path: str) -> None:
@@ -174,20 +257,3 @@ def _see_heading(file: int, path: str) -> None:
     write(file, HEADING)
     os.fsync(file)
     sync_folder(path)
-
-
-def put_in_place(path: str, data: bytes) -> int:
-    """Writes a journal beside another one, locks it, and renames it to its place. Errors: OSError, and then the other one is as it was."""
-    beside = path + ".new"
-    file = os.open(beside, os.O_RDWR | os.O_CREAT | os.O_TRUNC | os.O_APPEND, os.stat(path).st_mode & 0o777)
-    try:
-        _lock(file, beside)
-        write(file, data)
-        os.fsync(file)
-        os.replace(beside, path)
-    except BaseException:
-        os.close(file)
-        os.unlink(beside)
-        raise
-    sync_folder(path)
-    return file

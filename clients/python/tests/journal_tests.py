@@ -1,5 +1,8 @@
 """Journals: what they keep through kills, torn ends, disks that are full, two writers, and processes that have read too much."""
 
+import contextlib
+import gc
+import importlib
 import logging
 import os
 import pickle
@@ -15,14 +18,32 @@ import time
 import unittest
 from unittest import mock
 
-from retro import Busy, Differs, Edit, Ended, Full, Journal, NoJournal, Refused, Unwritten
+from retro import Busy, Differs, Edit, Ended, Full, Journal, NoJournal, Refused, TimedOut, Unwritten
 from retro.journal_file import HEADING, entries_of
+from retro.journal_file import write as write_all
 
 PROGRAM = os.environ["RETRO"]
 KILLS = int(os.environ.get("KILLS", "100"))
 logging.getLogger("retro").addHandler(logging.NullHandler())
 OF_A_JOURNAL = 20  # kills of the writers of one journal
 OPERATIONS = {"queue": ("enq %d", "enq %d", "deq"), "pq": ("ins %d", "ins %d", "delmin"), "pqf": ("ins %d", "delmin"), "dict": ("put %d 7", "del %d")}
+
+
+@contextlib.contextmanager
+def failing(name, error, behind):
+    """The next call of a function fails, at once or `behind` all that it does."""
+    module, call = name.rsplit(".", 1)
+    works, calls = getattr(importlib.import_module(module), call), []
+
+    def fails(*words):
+        calls.append(words)
+        done = works(*words) if behind or len(calls) > 1 else None
+        if len(calls) == 1:
+            raise error
+        return done
+
+    with mock.patch(name, fails):
+        yield
 
 
 class Journals(unittest.TestCase):
@@ -220,7 +241,7 @@ class Refusals(Journals):
             self.assertEqual((retro.cut, self.text()), (b"\x00" * 40, whole))
 
     def test_a_write_that_fails(self):
-        for name in ("os.fsync", "retro.journal.write"):
+        for name in ("os.fsync", "retro.journal_file.write"):
             with self.subTest(name):
                 retro = Journal(self.path, PROGRAM)
                 if "q" not in retro.names:
@@ -243,6 +264,84 @@ class Refusals(Journals):
             self.assertEqual((self.text(), os.listdir(os.path.dirname(self.path))), (whole, ["day.journal"]))
             retro.line("q undo")
 
+    def test_a_compaction_whose_program_ends(self):
+        """The program that is to answer the new journal is killed, or has no memory: what it did not answer is not left out."""
+        with Journal(self.path, PROGRAM) as retro:
+            list(retro.stream(["new q queue", "q at 5 enq 1", "new r queue"]))
+            whole = self.text()
+            for ends in ("exit 5", "head -n 1; kill -9 $$", "echo refused rows; exit 1"):
+                retro._command = ["sh", "-c", ends]
+                self.assertRaises(Ended, retro.compact)
+                self.assertEqual(self.text(), whole)
+            retro._command = PROGRAM
+            retro.line("q at 6 enq 2")
+        with Journal(self.path, PROGRAM) as retro:
+            self.assertEqual((retro.line("q ask all"), list(retro.names)), ([1, 2], ["q", "r"]))
+
+    def test_a_compaction_that_is_interrupted(self):
+        """Wherever it is, whatever is answered then stands in the file that is found at the path."""
+        number = 0
+        for name in ("os.open", "os.fsync", "os.replace", "retro.journal_file.sync_folder"):
+            for error in (KeyboardInterrupt(), OSError(28, "no space")):
+                for behind in (False, True):
+                    number += 1
+                    with self.subTest(name, behind=behind), Journal(self.path, PROGRAM) as retro:
+                        if "q" not in retro.names:
+                            retro.line("new q queue")
+                        with failing(name, error, behind), self.assertRaises(type(error)):
+                            retro.compact()
+                        retro.line("q at %d enq %d" % (number, number))
+                    with Journal(self.path, PROGRAM) as retro:
+                        self.assertEqual((retro.line("q ask back"), retro.line("q ask size")), (number, number))
+                        retro.compact()
+        self.assertEqual(os.listdir(os.path.dirname(self.path)), ["day.journal"])
+
+    def test_one_that_is_dropped_or_does_not_end_can_be_opened_again(self):
+        retro = Journal(self.path, PROGRAM)
+        retro.line("new q queue")
+        del retro
+        gc.collect()
+        retro = Journal(self.path, PROGRAM, timeout=5)
+        os.kill(retro._process.pid, signal.SIGSTOP)
+        retro.timeout = 0.1
+        self.assertRaises(TimedOut, retro.end)
+        Journal(self.path, PROGRAM).end()
+
+    def test_a_fork_does_not_keep_it(self):
+        retro = Journal(self.path, PROGRAM)
+        child = os.fork()
+        if child == 0:
+            time.sleep(60)
+            os._exit(0)
+        self.addCleanup(os.waitpid, child, 0)
+        self.addCleanup(os.kill, child, signal.SIGKILL)
+        retro.end()
+        Journal(self.path, PROGRAM).end()
+
+    def test_a_group_that_cannot_be_written(self):
+        """None of its lines counts: neither where the disk is full at its second line nor where it is at its end."""
+        with Journal(self.path, PROGRAM) as retro:
+            retro.line("new q queue")
+        whole = self.text()
+        for name, call, more in (("retro.journal_file.write", write_all, 1), ("os.fsync", os.fsync, 0)):
+            works = mock.Mock(wraps=call, side_effect=[mock.DEFAULT] * more + [OSError(28, "no space")] * 2)
+            with self.subTest(name):
+                retro = Journal(self.path, PROGRAM)
+                with mock.patch(name, works), self.assertRaises(Unwritten) as caught, retro.group():
+                    retro.line("new r queue")
+                    retro.line("q at 5 enq 1")
+                self.assertIn("no space", str(caught.exception))
+                self.assertIs(caught.exception, retro._failed)
+                self.assertEqual(self.text(), whole)
+
+    def test_an_end_within_a_group(self):
+        synced = []
+        with mock.patch("os.fsync", lambda file: synced.append(os.fstat(file).st_size)):
+            retro = Journal(self.path, PROGRAM)
+            with retro.group():
+                retro.line("new q queue")
+                retro.end()
+        self.assertEqual(synced[-1], len(self.text()))
 
 class Processes(Journals):
     def test_a_program_that_was_killed(self):
@@ -344,6 +443,25 @@ class Processes(Journals):
                 retro.line("q at 5 enq 1")
             self.assertEqual(retro.line("q at 6 enq 2"), Edit(1))
             self.assertEqual(retro.line("q ask all"), [2])
+
+    def test_an_open_block_through_two_interruptions(self):
+        """The second one while the lines of the block are sent to the new process: each of them counts."""
+        with Journal(self.path, PROGRAM) as retro:
+            for line in ("timeline q queue next 9", "#1 5 enq 1", "#2 6 enq 2", "#3 7 enq 3"):
+                retro.line(line)
+            retro._process.kill()
+            self.assertRaises(Ended, retro.line, "end")
+            keep, kept = retro._keep, []
+
+            def interrupts(replies):
+                kept.append(keep(replies))
+                if len(kept) == 2:
+                    raise KeyboardInterrupt
+
+            with mock.patch.object(retro, "_keep", interrupts):
+                self.assertRaises(KeyboardInterrupt, retro.line, "end")
+            retro.line("end")
+            self.assertEqual(retro.line("q ask all"), [1, 2, 3])
 
     def test_an_open_block(self):
         with Journal(self.path, PROGRAM) as retro:
