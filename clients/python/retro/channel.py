@@ -11,7 +11,6 @@ import weakref
 from typing import Any, Callable, List, Optional, Sequence, Set, Union, cast
 
 from .answers import Reply
-from .answers import Reply
 from .conversation import Conversation, Sent
 from .errors import Ended, OutOfTurn, TimedOut
 
@@ -70,9 +69,8 @@ class Channel:
         self.status: Optional[int] = None
         self.reports: List[str] = []
         self._talk = Conversation(evidence)
-        self._lock = threading.Lock()
+        self._lock: Any = threading.RLock()
         self._telling = threading.RLock()
-        self._inside = 0
         self._streams: Set[int] = set()
         self._speaker = 0
         self._owner = os.getpid()
@@ -90,10 +88,13 @@ class Channel:
 
     def _enter(self) -> None:
         """Errors: OutOfTurn where this process or this thread is in no place for a call."""
+        self._check_process()
+        if self._lock._is_owned():  # as `threading.Condition` asks it: taking the lock and owning it are one step
+            raise OutOfTurn("another call of this thread is within a line")
+
+    def _check_process(self) -> None:
         if os.getpid() != self._owner:
             raise OutOfTurn("the conversation belongs to the process %d, from which this one was forked" % self._owner)
-        if self._inside == threading.get_ident() and self._lock.locked():
-            raise OutOfTurn("another call of this thread is within a line")
 
     def _check_end(self) -> None:
         """Errors: Ended; an end that was interrupted is made first."""
@@ -188,44 +189,32 @@ class Channel:
         """Sends a line and reads its answer by one write and one read, where that is all; the general way goes on behind it. The lock is held."""
         if self.timeout is not None or self._to < 0 or self._streams:
             return None
-        self._inside = threading.get_ident()
-        try:
-            sent = self._talk.note_one(line)
-            if sent is None:
-                return None
-            if self._is_written():
-                self._talk.chunks.extend(map(os.read, (self._from,), (FEW,)))
-                if self._talk.chunks[0]:
-                    reply = self._talk.settle_one(sent)
-                    if reply is not None:
-                        return reply
-            self._flush()
-            self._pull(sent)
-        finally:
-            self._inside = 0
+        sent = self._talk.note_one(line)
+        if sent is None:
+            return None
+        if self._is_written():
+            self._talk.chunks.extend(map(os.read, (self._from,), (FEW,)))
+            if self._talk.chunks[0]:
+                reply = self._talk.settle_one(sent)
+                if reply is not None:
+                    return reply
+        self._flush()
+        self._pull(sent)
         return sent.last()
 
     def _exchange(self, lines: List[bytes], data: bytes, is_whole: bool, keeps: Optional[str] = None) -> Sent:
         """Sends lines and reads their answers. The lock is held."""
         self._ready(is_whole)
-        self._inside = threading.get_ident()
-        try:
-            sent = self._push(lines, data, keeps)
-            self._pull(sent)
-        finally:
-            self._inside = 0
+        sent = self._push(lines, data, keeps)
+        self._pull(sent)
         return sent
 
     def _catch_up(self) -> None:
         """Reads all that is owed, so that the tables have every edit. The lock is held."""
         self._talk.forget_unwritten()
         if self._talk.owed and self.status is None:
-            self._inside = threading.get_ident()
-            try:
-                self._flush()
-                self._pull(self._talk.owed[-1])
-            finally:
-                self._inside = 0
+            self._flush()
+            self._pull(self._talk.owed[-1])
 
     def _hand_on(self) -> None:
         if self._talk.untold or self._talk.unheard:
@@ -237,11 +226,7 @@ class Channel:
         self._enter()
         with self._lock:
             self._check_end()
-            self._inside = threading.get_ident()
-            try:
-                return self._push(data.split(b"\n")[:-1], data)
-            finally:
-                self._inside = 0
+            return self._push(data.split(b"\n")[:-1], data)
 
     def _await(self, sent: Sent) -> Optional[Ended]:
         """Reads until a batch is answered, or says that the program has ended before."""
@@ -250,11 +235,7 @@ class Channel:
             with self._lock:
                 if self.status is not None and not sent.is_done:
                     return Ended(self.status)
-                self._inside = threading.get_ident()
-                try:
-                    self._pull(sent)
-                finally:
-                    self._inside = 0
+                self._pull(sent)
         except Ended as ended:
             return ended
         finally:
@@ -273,9 +254,14 @@ class Channel:
                 self._wait(False)
             self._read()
 
-    def _kill(self) -> None:
+    def _stop(self) -> None:
+        """Kills the program, and leaves the rest to whoever holds the lock."""
         if self.status is None:
             _kill(self._process)
+
+    def _kill(self) -> None:
+        if self.status is None:
+            self._stop()
             self._close_input()
             self.status = self._process.wait()
             self._from = -1

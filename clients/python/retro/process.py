@@ -189,7 +189,7 @@ class Retro(Channel):
         return self.look(name, lambda table: table)
 
     def look(self, name: str, how: Callable[[Table], Looked]) -> Looked:
-        """What a function sees in the rows of a timeline, while no other thread can edit them. Errors: `Refused`, `Ended`."""
+        """What a function, which makes no call itself, sees in the rows of a timeline while no thread can edit them. Errors: `Refused`, `Ended`."""
         self._enter()
         with self._lock:
             self._catch_up()
@@ -205,7 +205,6 @@ class Retro(Channel):
         """
         self._enter()
         with self._lock:
-            self._inside = threading.get_ident()
             try:
                 self._end()
             except Ended:
@@ -213,13 +212,16 @@ class Retro(Channel):
             except TimedOut:
                 self._kill()
                 raise
-            finally:
-                self._inside = 0
         self._hand_on()
         return cast(int, self.status)
 
     def kill(self) -> None:
-        """Ends the program at once, and gives up what it has not answered. A second call does no more."""
-        self._enter()
-        with self._lock:
-            self._kill()
+        """Ends the program at once, and gives up what it has not answered: whoever waits for that, also in another thread, has `Ended`.
+
+        A second call does no more.
+        """
+        self._check_process()
+        self._stop()
+        if not self._lock._is_owned():
+            with self._lock:
+                self._kill()

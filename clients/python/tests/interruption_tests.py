@@ -230,6 +230,28 @@ class Interrupted(unittest.TestCase):
             self.assertEqual(len(refused), 1)
             self.right(retro, "c")
 
+    def test_calls_from_within_signals_at_any_moment(self):
+        """Each is answered, or refused where it would stand within another one; none waits for the one that waits for it."""
+        draws, refused, answered = random.Random(6), [], []
+
+        def ring(number, frame):
+            if time.monotonic() < until:
+                signal.setitimer(signal.ITIMER_REAL, 0.00002 + draws.random() * 0.0002)
+            try:
+                self.right(retro, "r%d" % len(answered))
+                answered.append(number)
+            except OutOfTurn as error:
+                refused.append(error)
+
+        with Retro(PROGRAM) as retro:
+            before = signal.signal(signal.SIGALRM, ring)
+            self.addCleanup(signal.signal, signal.SIGALRM, before)
+            until = time.monotonic() + 1
+            signal.setitimer(signal.ITIMER_REAL, 0.001)
+            while time.monotonic() < until + 0.1:
+                self.right(retro, "z%d" % len(refused))
+        self.assertGreater(len(refused), 100)
+
 
 class Threads(unittest.TestCase):
     def test_each_answer_goes_to_its_own_line(self):
@@ -271,6 +293,40 @@ class Threads(unittest.TestCase):
                 thread.join()
             self.assertEqual(tuple(jobs.rows()), jobs.save().rows)
             self.assertEqual((jobs.ask("size"), wrong), (300, []))
+
+    def test_a_call_within_a_look_is_refused(self):
+        caught = []
+
+        def call():
+            with self.assertRaises(OutOfTurn) as error:
+                retro.look("q", lambda table: retro.line("q ask size"))
+            caught.append(error.exception)
+
+        with Retro(PROGRAM) as retro:
+            retro.new("q", "queue")
+            thread = threading.Thread(target=call, daemon=True)
+            thread.start()
+            thread.join(10)
+            self.assertEqual(len(caught), 1)
+            self.assertEqual(retro.line("q ask size"), 0)
+
+    def test_a_kill_while_another_thread_waits(self):
+        caught = []
+
+        def wait():
+            with self.assertRaises(Ended) as error:
+                retro.send("new q queue")
+            caught.append(error.exception.status)
+
+        retro = Retro(STILL)
+        waiting = threading.Thread(target=wait, daemon=True)
+        waiting.start()
+        time.sleep(0.1)
+        killing = threading.Thread(target=retro.kill, daemon=True)
+        killing.start()
+        killing.join(10)
+        waiting.join(10)
+        self.assertEqual((caught, retro.status), ([-9], -9))
 
     def test_a_block_belongs_to_the_thread_that_opened_it(self):
         with Retro(PROGRAM) as retro:
