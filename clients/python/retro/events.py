@@ -165,6 +165,8 @@ def _events(table: str, words: Mapping[str, str]) -> Iterator[_Event]:
             if not columns:
                 columns = [cell.strip().lower() for cell in cells]
             elif any(cell.strip() for cell in cells):
+                if any(cell.strip() for cell in cells[len(columns) :]):
+                    raise ValueError("there are more cells than columns: put a text with %r in it between quotation marks" % reader.dialect.delimiter)
                 said = dict(zip(columns, (cell.strip() for cell in cells)))
                 word = words.get(_cell(said, columns, "event"), said["event"])
                 if word not in KIND_OF or (kind and KIND_OF[word] != kind):

@@ -2,7 +2,7 @@
 
 import itertools
 from types import TracebackType
-from typing import Dict, Iterable, Iterator, List, NamedTuple, Optional, Sequence, Tuple, Type
+from typing import Callable, Dict, Iterable, Iterator, List, NamedTuple, Optional, Sequence, Set, Tuple, Type, TypeVar
 
 from .answers import Value
 from .channel import Program
@@ -13,6 +13,7 @@ from .rows import Row, Saved, lifetimes
 from .timeline import Timeline
 from .wording import GivenNames, Wording, stretch
 
+Found = TypeVar("Found")
 QUESTIONS = {"queue": ("front", "size"), "stack": ("top", "size"), "deque": ("left", "right", "size"), "dict": ("size",), "pq": ("min", "size")}
 SINGLE = frozenset(("front", "back", "top", "left", "right", "min", "size"))  # questions that are named after what they ask for
 MOST = 20  # sentences on one question, and on who took what
@@ -50,6 +51,7 @@ class Report:
         self.rows: List[Edited] = []
         self.changes: List[Changed] = []
         self.takes: List[Take] = []
+        self._numbers: Set[int] = set()
 
     def compare(self, retro: Retro, questions: Sequence[str], lineage: Optional[Lineage] = None) -> None:
         """Fills the report; the process has both states, under the names `was` and `now`."""
@@ -64,23 +66,23 @@ class Report:
         return "\n".join(self._lines()) + "\n"
 
     def _lines(self) -> Iterator[str]:
+        self._numbers = {row.number for row in self.now.rows}
         if not (self.rows or self.changes or self.takes):
             yield "Nothing is different: neither a row of %s nor %s." % (self.now.name, _listed(self.questions))
             return
         yield ("Where two reports of %s part." if self.reports else "What has changed in %s.") % self.now.name
-        yield from _few("Rows", [self._row(one) for one in self.rows], "rows")
+        yield from _few("Rows", self.rows, self._row, "rows")
         for question in self.questions:
-            told = [self._changed(one) for one in self.changes if one.question == question]
-            yield from _few(_of(question), told or ["The same at every moment."], "stretches of time")
-        yield from _few("Who takes what", [self._take(one) for one in self.takes] or ["Every row takes what it took."], "rows")
+            changes = [one for one in self.changes if one.question == question]
+            yield from _few(_of(question), changes, self._changed, "stretches of time") or [_of(question), "  The same at every moment."]
+        yield from _few("Who takes what", self.takes, self._take, "rows") or ["Who takes what", "  Every row takes what it took."]
 
     def _row(self, one: Edited) -> str:
         say = self.wording
-        if one.was is None:
-            assert one.now is not None
-            return "%s, %s." % (say.row(one.now), "stands in the second report alone" if self.reports else "was put in")
-        if one.now is None:
-            return "%s, %s." % (say.row(one.was), "stands in the first report alone" if self.reports else "was taken out")
+        if one.was is None or one.now is None:
+            alone = ("first" if one.now is None else "second") + " report alone"
+            said = "stands in the " + alone if self.reports else "was taken out" if one.now is None else "was put in"
+            return "".join("%s, %s." % (say.row(row), said) for row in one if row)
         done = []
         if one.was.time != one.now.time:
             done.append(("stands at %s" if self.reports else "was moved to %s") % say.time(one.now.time))
@@ -104,7 +106,7 @@ class Report:
         took, takes = ("replaced", "replaces") if one.row.puts else ("took", "takes")
         if self.reports:
             return "%s, %s %s in the first report and %s in the second." % (say.row(one.row), takes, was, now)
-        if all(row.number != one.row.number for row in self.now.rows):
+        if one.row.number not in self._numbers:
             return "%s, %s %s, and is gone." % (say.row(one.row), took, was)
         return "%s, %s%s %s now." % (say.row(one.row), "%s %s, and " % (took, was) if one.before else "", takes, now)
 
@@ -118,10 +120,10 @@ def _listed(questions: Sequence[str]) -> str:
     return "an answer to " + ", ".join(questions) if questions else "an answer"
 
 
-def _few(heading: str, told: List[str], what: str) -> List[str]:
-    """The first sentences below a heading, and how many more there are."""
-    more = ["  And %d more %s." % (len(told) - MOST, what)] if len(told) > MOST else []
-    return [heading, *("  " + text for text in told[:MOST]), *more] if told else []
+def _few(heading: str, found: Sequence[Found], say: Callable[[Found], str], what: str) -> List[str]:
+    """Sentences on the first of what was found, below a heading, and how many more there are."""
+    more = ["  And %d more %s." % (len(found) - MOST, what)] if len(found) > MOST else []
+    return [heading, *("  " + say(one) for one in found[:MOST]), *more] if found else []
 
 
 def _takes(was: Saved, now: Saved, same: Dict[int, int]) -> Iterator[Take]:

@@ -1,5 +1,6 @@
 """Files that are whole or not at all, and what can be had from one that is not."""
 
+import contextlib
 import os
 import tempfile
 from typing import List, NamedTuple, Optional, Union
@@ -22,7 +23,8 @@ def write_whole(path: Union[str, "os.PathLike[str]"], text: str) -> None:
         os.chmod(beside, _mode(place))
         os.replace(beside, place)
     except BaseException:
-        os.unlink(beside)
+        with contextlib.suppress(FileNotFoundError):
+            os.unlink(beside)
         raise
     sync_folder(place)
 

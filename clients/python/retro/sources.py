@@ -42,7 +42,7 @@ def begun(replies: Iterable[Reply]) -> Begun:
 
 
 def read_source(data: bytes, program: Optional[Program] = None) -> Source:
-    """The timelines of a save or of a script. Errors: ValueError where a save is not whole; `Ended`."""
+    """The timelines of a save or of a script; a block that is refused, or whose end is missing, makes none. Errors: `Ended`."""
     return _run(lines_of(data), program)
 
 

@@ -6,7 +6,7 @@ import io
 import itertools
 import operator
 import zlib
-from typing import Any, Callable, Dict, Hashable, Iterable, Iterator, List, Mapping, NamedTuple, Optional, Sequence, Tuple, Union
+from typing import Any, Callable, Dict, Hashable, Iterable, Iterator, List, Mapping, NamedTuple, Optional, Sequence, Set, Tuple, Union
 
 from .answers import Value
 from .channel import Program
@@ -79,12 +79,12 @@ def _column(column: Column, rows: object, row: object) -> Callable[[Any], Any]:
 
 
 def by_key(events: Iterable[Event]) -> Iterator[Tuple[Hashable, List[Event]]]:
-    """The events of each key, which arrive by key. Memory: one key's events, and a number for each key. Errors: `KeyAgain`."""
-    seen = set()
+    """The events of each key, which arrive by key. Memory: one key's events, and the keys that were seen. Errors: `KeyAgain`."""
+    seen: Set[Hashable] = set()
     for key, group in itertools.groupby(events, operator.attrgetter("key")):
-        if hash(key) in seen:
+        if key in seen:
             raise KeyAgain("%r comes again: order the rows by key, or leave in_order out" % (key,))
-        seen.add(hash(key))
+        seen.add(key)
         yield key, list(group)
 
 

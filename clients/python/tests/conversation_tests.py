@@ -9,6 +9,7 @@ import pickle
 import tempfile
 import unittest
 
+import retro
 from retro import (
     Edit, Ended, OutOfStep, OutOfTurn, Refused, Retro, RetroError, Row, Saved, Taken, TimedOut, Unperformed, answer, evidence_of, value_of,
 )
@@ -125,7 +126,8 @@ class Refusals(Conversation):
 
 class Errors(unittest.TestCase):
     def test_each_is_pickled_whole(self):
-        for error in (
+        errors = (
+            RetroError("the base"),
             Ended(5),
             Ended(-9),
             Refused("refused at #4 5", 7, "jobs at 5 deq"),
@@ -134,8 +136,17 @@ class Errors(unittest.TestCase):
             OutOfStep("no answer"),
             Unperformed(Row(4, 5, "deq")),
             Unreadable(3, "no date"),
-        ):
-            self.assertIsInstance(error, RetroError)
+            retro.JournalError("the base of a journal's"),
+            retro.Busy("day.journal"),
+            retro.Differs("day.journal", 4, "q at 5 enq 1", ("ok #1",), ("ok #2",)),
+            retro.NoJournal("day.journal"),
+            retro.Unwritten("day.journal", "no space"),
+            retro.Full("day.journal", 4000),
+            retro.KeyAgain("a comes again"),
+            retro.PageDiffers(3, "q ask all", "= 1", "= 2"),
+        )
+        self.assertEqual({type(error) for error in errors}, kinds_of(RetroError))
+        for error in errors:
             for again in (pickle.loads(pickle.dumps(error)), copy.copy(error)):
                 self.assertEqual((type(again), str(again), again.__dict__), (type(error), str(error), error.__dict__))
 
@@ -154,6 +165,11 @@ class Errors(unittest.TestCase):
     def test_what_cannot_be_pickled_says_so(self):
         with Retro(PROGRAM) as retro:
             self.assertRaises(TypeError, pickle.dumps, retro)
+
+
+def kinds_of(base):
+    """All errors of the library under this one."""
+    return {base}.union(*map(kinds_of, base.__subclasses__()))
 
 
 def ends():

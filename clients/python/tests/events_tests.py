@@ -86,6 +86,7 @@ class Events(unittest.TestCase):
             ("time,event,key,value\n2026-03-01 08:05,put,a,\n", 2),
             ("time,event,key,value\n2026-03-01 08:05,put,a,1.5\n", 2),
             ("time,event,item\n,deq,\n", 2),
+            ("time,event,item\n2026-03-01 08:05,enq,Smith, John\n", 2),
         ):
             with self.assertRaises(Unreadable) as caught:
                 script_of(table, "q", Names())
@@ -97,6 +98,10 @@ class Events(unittest.TestCase):
         self.assertEqual(script.lines[1:], ["jobs at 20260301000000 enq 1", "jobs at 20260302070000 deq", "jobs at 20260302080530 enq 2"])
         self.assertEqual(script_of(table.replace(";", "\t"), "jobs", Names(), {"came": "enq", "taken": "deq"}), script)
         self.assertRaises(ValueError, script_of, table, "my jobs", Names())
+
+    def test_empty_cells_behind_the_last_column(self):
+        table = "time;event;item;;\n2026-03-01 08:05;enq;Anna;;;\n2026-03-01 08:06;enq;Ben\n"
+        self.assertEqual(len(script_of(table, "jobs", Names()).lines), 3)
 
     def test_rows_in_any_order(self):
         rows = ["2026-03-01 09:00,deq,", "2026-03-01 08:05,enq,Anna", "2026-03-01 08:05,enq,Ben", "2026-02-28 10:00,enq,Eva"]

@@ -2,6 +2,7 @@
 
 import os
 import random
+import time
 import unittest
 
 import second_bench
@@ -146,6 +147,22 @@ class Told(unittest.TestCase):
         with explain(water) as report:
             water.at(5, "put 12 320")
         self.assertIn("Row 2, put 12 325 at 8, replaced 12 310 of row 1, and replaces 12 320 of row 3 now.", report.text())
+
+
+    def test_a_report_of_many_takes(self):
+        """The first enq of a long day was wrong: each row takes something else, and the first of them are told."""
+        count = 10_000
+        rows = [Row(number, number, "enq %d" % number if number <= count else "deq") for number in range(1, 2 * count)]
+        was = Saved("q", "queue", 2 * count, tuple(rows))
+        picks = self.retro.load(was)
+        with explain(picks, ["size"]) as report:
+            picks.delete(1)
+        began = time.process_time()
+        text = report.text()
+        self.assertLess(time.process_time() - began, 2)
+        self.assertEqual(len(report.takes), count - 1)
+        self.assertIn("  Row 10001, deq at 10001, took 1 of row 1, and takes 2 of row 2 now.\n", text)
+        self.assertIn("  And %d more rows.\n" % (count - 1 - 20), text)
 
 
 class Compared(unittest.TestCase):

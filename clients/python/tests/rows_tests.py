@@ -92,6 +92,10 @@ class Rows(unittest.TestCase):
             self.assertEqual(jobs.entries(), [Row(2, 20, "enq 102")])
 
 
+def interrupt():
+    raise KeyboardInterrupt
+
+
 class Files(unittest.TestCase):
     def setUp(self):
         folder = tempfile.TemporaryDirectory()
@@ -107,6 +111,10 @@ class Files(unittest.TestCase):
         with mock.patch("os.fsync", side_effect=OSError(28, "no space")):
             self.assertRaises(OSError, save_file, self.place, saved("queue", 3))
         self.assertEqual(load_file(self.place), monday)
+        with mock.patch("os.replace") as renamed, self.assertRaises(KeyboardInterrupt):
+            renamed.side_effect = lambda *places: (os.rename(*places), interrupt())
+            save_file(self.place, saved("queue", 2))
+        self.assertEqual(load_file(self.place), saved("queue", 2))
         save_file(self.place, saved("queue", 3))
         self.assertEqual((os.listdir(self.folder), stat.S_IMODE(os.stat(self.place).st_mode)), (["day.block"], 0o640))
 

@@ -49,6 +49,8 @@ class Answers(unittest.TestCase):
         rows = sorted(PICKS, key=lambda row: row[0])
         self.assertEqual(table(*rows, ask=["all"], in_order=True), table(*rows, ask=["all"]))
         self.assertRaises(KeyAgain, table, *PICKS, in_order=True)
+        numbers = [(key, 5, "enq 1") for key in (-2, -1, 0, 2**61 - 1)]  # of which two and two have one hash
+        self.assertEqual([one.key for one in table(*numbers, in_order=True)], [-2, -1, 0, 2**61 - 1])
 
     def test_drawn_tables_beside_a_second_reading(self):
         draws, rows, benches = random.Random(1), [], {}
