@@ -67,7 +67,7 @@ def paged(given: argparse.Namespace) -> int:
 def _worded(command: argparse.ArgumentParser) -> None:
     """What gives numbers their names and dates."""
     command.add_argument("--names", metavar="FILE", help="CSV with the names of numbers, as `events` keeps it")
-    command.add_argument("--calendar", action="store_true", help="times are dates, YYYYMMDDhhmm")
+    command.add_argument("--calendar", action="store_true", help="times are dates, YYYYMMDDhhmm or YYYYMMDDhhmmss")
 
 
 def add_to(commands: "argparse._SubParsersAction[argparse.ArgumentParser]") -> None:

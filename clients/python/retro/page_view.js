@@ -21,21 +21,26 @@ function drawn(name, given, text) {
   return element;
 }
 
+// A time as a date, with its seconds where it has them; null where it is none of the calendar.
 function dateOf(time) {
-  const found = /^(\d{4})(\d\d)(\d\d)(\d\d)(\d\d)$/.exec(time);
-  return DATA.calendar && found ? `${found[1]}-${found[2]}-${found[3]} ${found[4]}:${found[5]}` : null;
+  const found = /^(\d{4})(\d\d)(\d\d)(\d\d)(\d\d)(\d\d)?$/.exec(time);
+  if (!DATA.calendar || found === null) return null;
+  const [, year, month, day, hour, minute, second] = found;
+  const date = `${year}-${month}-${day}T${hour}:${minute}:${second ?? "00"}`;
+  const moment = new Date(date + "Z");
+  if (Number.isNaN(moment.getTime()) || !moment.toISOString().startsWith(date)) return null;
+  return { text: date.slice(0, second === undefined ? 16 : 19).replace("T", " "), seconds: moment.getTime() / 1000 };
 }
 
 function timeText(index) {
   const time = state.history.times[index];
-  return dateOf(time) ?? time;
+  return dateOf(time)?.text ?? time;
 }
 
-// Where a time stands on a line: dates by their minutes.
+// Where a time stands on a line: dates by the calendar.
 function position(index) {
   const time = state.history.times[index];
-  const date = dateOf(time);
-  return date === null ? Number(time) : Date.parse(date.replace(" ", "T") + "Z") / 60000;
+  return dateOf(time)?.seconds ?? Number(time);
 }
 
 function named(number) {

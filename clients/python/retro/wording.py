@@ -24,7 +24,7 @@ class Wording:
     """How what a timeline of a kind holds is said.
 
     `names`: a name for the values of a queue, stack or deque, the keys of a dict, the keys of a priority queue. `calendar`: whether a time is a
-    date, `YYYYMMDDhhmm`.
+    date, `YYYYMMDDhhmm` or `YYYYMMDDhhmmss`.
     """
 
     def __init__(self, kind: str, names: GivenNames = None, calendar: bool = False) -> None:

@@ -235,6 +235,19 @@ class Shown(unittest.TestCase):
         marks = self.browser.value("[...document.querySelectorAll('#bars line')].map((one) => one.x1.baseVal.value)")
         self.assertEqual((begins, marks), ([220, 500], [220]))
 
+    def test_calendar_with_seconds(self):
+        times = (20260131235930, 20260201000000, 20260201000030, 20260230000000)  # of which the last is no date
+        self.opened(page(["new t queue"] + ["t at %d enq %d" % (time, time) for time in times], calendar=True, program=PROGRAM))
+        said = []
+        for moment in range(1, 5):
+            self.slide("moment", moment)
+            said += self.texts("#moment-text")
+        told = ("2026-01-31 23:59:30", "2026-02-01 00:00:00", "2026-02-01 00:00:30", "20260230000000")
+        self.assertEqual(said, ["after all rows of " + one for one in told])
+        self.opened(page(["new t queue"] + ["t at %d enq 1" % time for time in times[:3]], calendar=True, program=PROGRAM))
+        begins = self.browser.value("[...document.querySelectorAll('#bars rect')].map((one) => one.x.baseVal.value)")
+        self.assertEqual(begins, [220, 500, 780])
+
     def test_more_timelines_than_one(self):
         lines = ["new a queue", "new b stack", "a at 5 enq 1", "b at 5 push 7", "b at 6 push 8", "b at 7 pop x", "b delete #9"]
         self.opened(page(lines, program=PROGRAM))
