@@ -6,6 +6,7 @@ steps.
 
 from .answers import Edit, Evidence, Reply, Taken, evidence_of, value_of
 from .asynchronous import AsyncRetro
+from .asynchronous_kinds import AsyncDeque, AsyncDict, AsyncPriorityQueue, AsyncQueue, AsyncStack
 from .asynchronous_timeline import AsyncTimeline
 from .checking import Verdict, check, times_of
 from .dates import date_of, time_of
@@ -30,11 +31,12 @@ from .whole import Answered, annotated, answer, answer_divided, divide
 __version__ = "0.2"
 
 __all__ = [
-    "Answered", "AsyncRetro", "AsyncTimeline", "Busy", "Changed", "Compacted", "Deque", "Dict", "Differs", "Edit", "Edited", "Ended", "Event",
-    "Evidence", "Full", "Journal", "JournalError", "KeyAgain", "Lifetime", "Lineage", "Merged", "Names", "NoJournal", "OutOfStep", "OutOfTurn",
-    "PageDiffers", "PriorityQueue", "Queue", "Recovered", "Refused", "RefusedEvent", "Reply", "Report", "Retro", "RetroError", "Row", "Saved",
-    "Script", "Source", "Stack", "Table", "Take", "Taken", "TimedOut", "Timeline", "Told", "Unperformed", "Unreadable", "Unwritten", "Verdict",
-    "annotated", "answer", "answer_divided", "answer_events", "answer_table", "arrive", "check", "compared", "date_of", "divide", "entries",
-    "events_of", "evidence_of", "explain", "lifetimes", "lines_anew", "load_as_pqf", "load_file", "merge", "page", "part_of", "partition",
-    "read_source", "recover", "same_rows", "save_file", "script_of", "svg", "table_of", "time_of", "times_of", "value_of", "write_whole",
+    "Answered", "AsyncDeque", "AsyncDict", "AsyncPriorityQueue", "AsyncQueue", "AsyncRetro", "AsyncStack", "AsyncTimeline", "Busy",
+    "Changed", "Compacted", "Deque", "Dict", "Differs", "Edit", "Edited", "Ended", "Event", "Evidence", "Full", "Journal", "JournalError",
+    "KeyAgain", "Lifetime", "Lineage", "Merged", "Names", "NoJournal", "OutOfStep", "OutOfTurn", "PageDiffers", "PriorityQueue", "Queue",
+    "Recovered", "Refused", "RefusedEvent", "Reply", "Report", "Retro", "RetroError", "Row", "Saved", "Script", "Source", "Stack", "Table",
+    "Take", "Taken", "TimedOut", "Timeline", "Told", "Unperformed", "Unreadable", "Unwritten", "Verdict", "annotated", "answer",
+    "answer_divided", "answer_events", "answer_table", "arrive", "check", "compared", "date_of", "divide", "entries", "events_of",
+    "evidence_of", "explain", "lifetimes", "lines_anew", "load_as_pqf", "load_file", "merge", "page", "part_of", "partition", "read_source",
+    "recover", "same_rows", "save_file", "script_of", "svg", "table_of", "time_of", "times_of", "value_of", "write_whole",
 ]

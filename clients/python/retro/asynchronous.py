@@ -7,10 +7,12 @@ import os
 import signal
 from types import TracebackType
 from typing import (
-    Any, AsyncGenerator, AsyncIterable, AsyncIterator, Callable, Deque, Iterable, Iterator, List, Optional, Tuple, Type, TypeVar, Union, cast,
+    Any, AsyncGenerator, AsyncIterable, AsyncIterator, Callable, Deque, Iterable, Iterator, List, Literal, Optional, Tuple, Type, TypeVar, Union, cast,
+    overload,
 )
 
 from .answers import Reply, Value
+from .asynchronous_kinds import KINDS, AsyncDeque, AsyncDict, AsyncPriorityQueue, AsyncQueue, AsyncStack
 from .asynchronous_timeline import AsyncTimeline
 from .channel import SIZE, Program, command, log
 from .conversation import Conversation, Line, Sent, bytes_of, joined, spoken
@@ -206,23 +208,44 @@ class AsyncRetro:
         if reply.answers != ("refused no timeline " + name,):
             raise OutOfStep("%r is answered by %r" % (reply.line, reply.answers))
 
-    async def new(self, name: str, kind: str) -> "AsyncTimeline":
-        """A timeline without rows. Errors: `Refused`, `Ended`."""
-        await self.call("new %s %s" % (name, kind))
-        return AsyncTimeline(self, name, "pq" if kind == "pqf" else kind)
+    @overload
+    async def new(self, name: str, kind: Literal["queue"]) -> AsyncQueue: ...
 
-    async def load(self, saved: Union[Saved, str], name: Optional[str] = None) -> "AsyncTimeline":
+    @overload
+    async def new(self, name: str, kind: Literal["stack"]) -> AsyncStack: ...
+
+    @overload
+    async def new(self, name: str, kind: Literal["deque"]) -> AsyncDeque: ...
+
+    @overload
+    async def new(self, name: str, kind: Literal["dict"]) -> AsyncDict: ...
+
+    @overload
+    async def new(self, name: str, kind: Literal["pq", "pqf"]) -> AsyncPriorityQueue: ...
+
+    @overload
+    async def new(self, name: str, kind: str) -> AsyncTimeline: ...
+
+    async def new(self, name: str, kind: str) -> AsyncTimeline:
+        """A timeline without rows, of the type of its kind. Errors: `Refused`, `Ended`."""
+        await self.call("new %s %s" % (name, kind))
+        return self._timeline(name, "pq" if kind == "pqf" else kind)
+
+    def _timeline(self, name: str, kind: str) -> AsyncTimeline:
+        return KINDS.get(kind, AsyncTimeline)(self, name, kind)
+
+    async def load(self, saved: Union[Saved, str], name: Optional[str] = None) -> AsyncTimeline:
         """Loads a saved timeline, or the text of one. Errors: those of `Retro.load`."""
         saved = Saved.read(saved) if isinstance(saved, str) else saved
         saved = saved.renamed(name) if name else saved
         data = saved.text.encode("utf-8", "surrogateescape")
         lines = data.split(b"\n")[:-1]
         check_block(lines, await self._exchange(lines, data, True))
-        return AsyncTimeline(self, saved.name, saved.kind)
+        return self._timeline(saved.name, saved.kind)
 
-    async def timeline(self, name: str) -> "AsyncTimeline":
+    async def timeline(self, name: str) -> AsyncTimeline:
         """A timeline that is there already. Errors: `Refused`, `Ended`."""
-        return AsyncTimeline(self, name, (await self.save(name)).kind)
+        return self._timeline(name, (await self.save(name)).kind)
 
     async def save(self, name: str) -> Saved:
         """A timeline as it stands. Cost: its rows. Errors: `Refused`, `Ended`."""

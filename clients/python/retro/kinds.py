@@ -11,7 +11,7 @@ from typing import List, Optional, Tuple, Type, TypeVar
 from .answers import Edit
 from .conversation import spoken
 from .errors import OutOfStep
-from .timeline import Timeline, moment
+from .timeline import Timeline, moment_of_a_row
 
 Kind = TypeVar("Kind", bound="_Kind")
 Pair = Tuple[int, int]
@@ -30,10 +30,7 @@ class _Kind(Timeline):
         return cls(timeline.retro, timeline.name, timeline.kind)
 
     def _row(self, operation: str, at: Optional[int], before: Optional[int], after: Optional[int]) -> Edit:
-        words = moment(at, before, after)
-        if not words:
-            raise ValueError("a row stands at a time, or before or after another row")
-        return self._edit(words + operation)
+        return self._edit(moment_of_a_row(at, before, after) + operation)
 
     def _number(self, question: str, at: Optional[int], before: Optional[int], after: Optional[int]) -> Optional[int]:
         answer = self.ask(question, at, before, after)
@@ -144,7 +141,7 @@ class Dict(_Kind):
 
     def all(self, at: Optional[int] = None, before: Optional[int] = None, after: Optional[int] = None) -> List[Pair]:
         """All keys with their values, rising."""
-        return [_pair_of(one) for one in spoken(self.ask("all", at, before, after), list)]
+        return [pair_of(one) for one in spoken(self.ask("all", at, before, after), list)]
 
     def get(self, key: int, at: Optional[int] = None, before: Optional[int] = None, after: Optional[int] = None) -> Optional[int]:
         """The value of a key."""
@@ -168,10 +165,11 @@ class Dict(_Kind):
 
     def _pair(self, question: str, at: Optional[int], before: Optional[int], after: Optional[int]) -> Optional[Pair]:
         answer = self.ask(question, at, before, after)
-        return None if answer is None else _pair_of(answer)
+        return None if answer is None else pair_of(answer)
 
 
-def _pair_of(answer: object) -> Pair:
+def pair_of(answer: object) -> Pair:
+    """A key with its value. Errors: OutOfStep where the answer is none."""
     if isinstance(answer, tuple) and len(answer) == 2 and isinstance(answer[0], int) and isinstance(answer[1], int):
         return answer[0], answer[1]
     raise OutOfStep("%r is no key with its value" % (answer,))

@@ -20,6 +20,14 @@ def moment(at: Optional[int] = None, before: Optional[int] = None, after: Option
     return "".join(moments)
 
 
+def moment_of_a_row(at: Optional[int], before: Optional[int], after: Optional[int]) -> str:
+    """The words of the moment at which a row is put in. Errors: those of `moment`; ValueError where none is named."""
+    words = moment(at, before, after)
+    if not words:
+        raise ValueError("a row stands at a time, or before or after another row")
+    return words
+
+
 def over_times(start: int, rows: List[Row]) -> List[int]:
     """A time, and each later one at which rows stand."""
     return [index(start)] + sorted({row.time for row in rows} - {start})

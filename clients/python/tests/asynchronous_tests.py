@@ -2,12 +2,16 @@
 
 import asyncio
 import contextlib
+import inspect
 import os
 import random
 import unittest
 
 from interruption_tests import SLOW, STILL
-from retro import AsyncRetro, Ended, OutOfTurn, Refused, Retro, RetroError, Row, Saved, Taken, TimedOut, Timeline
+from retro import (
+    AsyncDeque, AsyncDict, AsyncPriorityQueue, AsyncQueue, AsyncRetro, AsyncStack, Deque, Dict, Ended, OutOfTurn, PriorityQueue, Queue, Refused, Retro,
+    RetroError, Row, Saved, Stack, Taken, TimedOut, Timeline,
+)
 from retro.asynchronous_timeline import AsyncTimeline
 
 PROGRAM = os.environ["RETRO"]
@@ -15,6 +19,19 @@ PROGRAM = os.environ["RETRO"]
 
 def public(kind):
     return {name for name in dir(kind) if not name.startswith("_")}
+
+
+def signatures(kind):
+    """The arguments of each call of a kind of timelines, without their types."""
+    calls = {name: getattr(kind, name) for name in public(kind) if callable(getattr(kind, name))}
+    return {name: [(one.name, one.default, one.kind) for one in inspect.signature(call).parameters.values()] for name, call in calls.items()}
+
+
+def called(kind, calls):
+    """What these calls of a timeline without `asyncio` give."""
+    with Retro(PROGRAM) as retro:
+        timeline = retro.new(kind, kind)
+        return [getattr(timeline, call)(*values, **moment) for call, values, moment in calls]
 
 
 class Asynchronous(unittest.IsolatedAsyncioTestCase):
@@ -42,6 +59,33 @@ class Asynchronous(unittest.IsolatedAsyncioTestCase):
             await retro.confirm()
             self.assertEqual([reply.value async for reply in retro.stream("; a\njobs ask size\n")], [None, 1])
         self.assertEqual((retro.status, await retro.end()), (1, 1))
+
+    async def test_the_same_calls_of_each_kind(self):
+        """The operations and the questions of each kind have the same arguments, and the same answers one after another."""
+        kinds = (
+            ("queue", Queue, AsyncQueue, (("enq", 5, 10), ("enq", 7, 20), ("deq", 15)), (("front",), ("back",), ("nth", 0), ("nth", 1))),
+            ("stack", Stack, AsyncStack, (("push", 5, 10), ("push", 7, 20), ("pop", 15)), (("top",), ("nth", 0), ("nth", 1))),
+            ("deque", Deque, AsyncDeque, (("pushl", 5, 10), ("pushr", 7, 10), ("pushl", 8, 20), ("popr", 15), ("popl", 25)), (("left",), ("right",), ("nth", 1))),
+            ("dict", Dict, AsyncDict, (("put", 5, 50, 10), ("put", 7, -1, 20), ("remove", 5, 15)),
+             (("get", 5), ("succ", 6), ("pred", 6), ("pred", 0), ("count", 0, 9), ("sum", 0, 9))),
+            ("pq", PriorityQueue, AsyncPriorityQueue, (("ins", 5, 10), ("ins", 3, 20), ("delmin", 15)), (("min",), ("nth", 0))),
+        )
+        async with AsyncRetro(PROGRAM) as retro:
+            for name, kind, asynchronous, operations, questions in kinds:
+                self.assertEqual(signatures(kind), signatures(asynchronous))
+                there = await retro.new(name, name)
+                self.assertIs(type(there), asynchronous)
+                self.assertIs(type(asynchronous.of(await retro.timeline(name))), asynchronous)
+                calls = [(call, values, {"at": time}) for call, *values, time in operations]
+                moments = ({}, {"at": 10}, {"at": 12}, {"before": 2}, {"after": 2})
+                calls += [(call, values, moment) for call, *values in (*questions, ("size",), ("all",)) for moment in moments]
+                told = [await getattr(there, call)(*values, **moment) for call, values, moment in calls]
+                self.assertEqual(told, await asyncio.to_thread(called, name, calls))
+            with self.assertRaises(ValueError):
+                await there.ins(5)
+            with self.assertRaises(TypeError):
+                await there.ins(5.0, at=1)
+            self.assertRaises(TypeError, AsyncStack.of, there)
 
     async def test_listeners_hear_every_line(self):
         heard = []
