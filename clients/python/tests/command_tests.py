@@ -158,6 +158,18 @@ class Installation(unittest.TestCase):
         with zipfile.ZipFile(self.built("build_editable", "editable")) as archive:
             self.assertEqual(archive.read("retro_client.pth").decode(), self.FOLDER + "\n")
 
+    @unittest.skipUnless(importlib.util.find_spec("pip") and importlib.util.find_spec("ensurepip"), "no pip here: an installation is not tried")
+    def test_an_editable_installation_without_a_network(self):
+        copy, place = os.path.join(self.made, "copy"), os.path.join(self.made, "place")
+        shutil.copytree(self.FOLDER, copy, ignore=shutil.ignore_patterns("__pycache__"))
+        self.said(self.made, "-m", "venv", "--without-pip", place)
+        python = os.path.join(place, "bin", "python")
+        self.said(self.made, "-m", "pip", "--python", python, "install", "--no-index", "--quiet", "--disable-pip-version-check", "-e", copy)
+        environment = {name: value for name, value in os.environ.items() if name != "PYTHONPATH"}
+        words = [python, "-c", "import retro; print(retro.__file__)"]
+        done = subprocess.run(words, cwd=self.made, env=environment, stdout=subprocess.PIPE, encoding="utf-8", check=True)
+        self.assertEqual(done.stdout, os.path.join(copy, "retro", "__init__.py") + "\n")
+
     @unittest.skipUnless(importlib.util.find_spec("pip"), "no pip here: an installation is not tried")
     def test_an_installation_without_a_network(self):
         copy = os.path.join(self.made, "copy")

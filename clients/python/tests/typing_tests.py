@@ -112,7 +112,7 @@ class Page(unittest.TestCase):
             with open(place, "w", encoding="utf-8") as file:
                 file.write(doctest.script_from_examples(page()))
             examples = [os.path.join(HERE, "examples", name) for name in os.listdir(os.path.join(HERE, "examples")) if name.endswith(".py")]
-            for checked in [["-p", "retro"], [place], *([example] for example in examples)]:
+            for checked in (["-p", "retro"], [place, *examples]):
                 words = [MYPY, "--strict", "--no-error-summary", "--cache-dir", os.path.join(folder, "cache"), *checked]
                 done = subprocess.run(words, cwd=HERE, env=dict(os.environ, MYPYPATH=HERE), stdout=subprocess.PIPE, stderr=subprocess.STDOUT, encoding="utf-8", check=False)
                 self.assertEqual((done.returncode, done.stdout), (0, ""))
