@@ -98,8 +98,8 @@ class Retro(Channel):
 
         `lines` is a text, an open file, or any other iterable of lines. It is a generator: where nobody iterates over it nothing is sent, so take
         `list(retro.stream(lines))` where the answers do not matter. Lines are taken some thousands ahead of the answers, so none may depend on
-        an answer of the same stream. Where the caller leaves before the end, the answers to what was sent are read before the next line.
-        Errors: those of `send`, at the first line that has one.
+        an answer of the same stream. Where the caller leaves before the end, or the lines themselves end with an error, the answers to what was
+        sent are read before the next line, and not given. Errors: those of `send`; of a line that can be none, before its thousand is sent.
         """
         source, me = lines_within(lines), threading.get_ident()
         self._enter()

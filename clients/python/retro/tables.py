@@ -111,9 +111,9 @@ def answer_table(
 
     `rows` and the columns are those of `events_of`; keys may be of any kind, and are no names of the language. A timeline's events are put in by
     their times, those of one time as they come. `kind`: of all timelines; that of the first operation where none is given. With `in_order` the
-    rows arrive by key, and memory is that of the events of eight keys, and of the keys; else all events are held. Questions are those of the language, also `at 930 front`.
-    Cost: some microseconds an event, and a process for each eight keys. Errors: ValueError; `KeyAgain`; `Refused` where a question is not one of
-    the kind; `Ended`.
+    rows arrive by key, and memory is that of the events of eight keys, and of the keys; else all events are held. Questions are those of the
+    language, also `at 930 front`. Cost: some microseconds an event, and a process for each eight keys. Errors: ValueError; `KeyAgain`; `Refused`
+    where a question is not one of the kind; `Ended`.
     """
     return answer_events(events_of(rows, key, time, operation, id), ask, kind, in_order, program)
 
