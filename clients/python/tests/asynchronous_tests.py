@@ -7,7 +7,7 @@ import os
 import random
 import unittest
 
-from interruption_tests import SLOW, STILL
+from interruption_tests import PIECES, SLOW, STILL
 from retro import (
     AsyncDeque, AsyncDict, AsyncPriorityQueue, AsyncQueue, AsyncRetro, AsyncStack, Deque, Dict, Ended, OutOfTurn, PriorityQueue, Queue, Refused, Retro,
     RetroError, Row, Saved, Stack, Taken, TimedOut, Timeline,
@@ -141,6 +141,10 @@ class Asynchronous(unittest.IsolatedAsyncioTestCase):
                 await retro.send("a ask size")
             retro.timeout = 5
             await self.right(retro, "b")
+
+    async def test_a_program_that_gives_an_answer_piece_by_piece(self):
+        async with AsyncRetro(PIECES, timeout=1) as retro:
+            await self.right(retro, "a")
 
     async def test_a_program_that_ends(self):
         retro = await AsyncRetro("false").start()

@@ -11,7 +11,8 @@ import unittest
 
 import retro
 from retro import (
-    Edit, Ended, OutOfStep, OutOfTurn, Refused, Retro, RetroError, Row, Saved, Taken, TimedOut, Unperformed, answer, evidence_of, value_of,
+    Edit, Ended, OutOfStep, OutOfTurn, Refused, Retro, RetroError, Row, Saved, Taken, TimedOut, Unperformed, answer, answer_divided, evidence_of,
+    value_of,
 )
 from retro.events import Unreadable
 
@@ -335,6 +336,16 @@ class Ends(unittest.TestCase):
             self.assertEqual((seen, caught.exception.status), ([("ok",)], 5))
             self.assertRaises(Ended, retro.line, "q ask size")
             self.assertEqual(retro.end(), 5)
+
+    def test_a_save_that_the_program_does_not_end(self):
+        """What it wrote of the answer is none, and stands behind none."""
+        retro = Retro(["sh", "-c", "echo timeline q queue next 3 rows 2; echo '#1 5 enq 1'; exit 5"])
+        self.assertRaises(Ended, retro.save, "q")
+        self.assertEqual((retro.end(), retro.reports), (5, []))
+
+    def test_a_log_whose_program_is_killed(self):
+        told = answer_divided(["new q queue", "q ask size"], ["sh", "-c", "echo ok; kill -9 $$"], 1)
+        self.assertEqual(([reply.answers for reply in told.replies], told.status), ([("ok",), ()], 137))
 
     def test_the_end_within_a_stream(self):
         retro = Retro(PROGRAM)

@@ -68,6 +68,7 @@ class Events(unittest.TestCase):
         for date, time in DATES:
             self.assertEqual(time_of(date), time)
         self.assertEqual(date_of(20260302080507), "2026-03-02 08:05:07")
+        self.assertEqual((time_of("02.03.2026", True), time_of("2026-03-02 08:05:07", True)), (20260302000000, 20260302080507))
         for bad in ("2026-02-29 10:00", "2026-1-01 10:00", "2026-01-01 24:00", "2026-01-01 10", "31.04.2026", "1.2.26", "0999-01-01", "2026-01-01 10:00:60", "\u0662026-01-01", ""):
             self.assertRaises(ValueError, time_of, bad)
         self.assertRaises(ValueError, date_of, 202602292359)

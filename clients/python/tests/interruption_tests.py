@@ -16,6 +16,7 @@ from retro import Ended, OutOfTurn, Retro, Row, TimedOut
 
 PROGRAM = os.environ["RETRO"]
 SLOW = [sys.executable, "-c", "import sys, time\nfor line in sys.stdin.buffer:\n    time.sleep(0.05); print('refused no timeline', line.split()[0].decode(), flush=True)"]
+PIECES = ["sh", "-c", "read line; for piece in refused ' ' no ' ' timeline ' a\n'; do sleep 0.25; printf \"$piece\"; done; cat"]
 STILL = ["sh", "-c", "exec sleep 60"]
 
 
@@ -376,6 +377,15 @@ class Processes(unittest.TestCase):
         self.assertTrue(ends(pid))
         self.assertEqual(threading.active_count(), threads)
 
+    def test_one_that_the_client_leaves_behind(self):
+        """A client that ends without `end`, by itself or by a signal, leaves no program, and waits for none."""
+        for last in ("pass", "os.kill(os.getpid(), 9)"):
+            script = "import os\nfrom retro import Retro\nretro = Retro()\nretro.new('q', 'queue')\nprint(retro._process.pid, flush=True)\n" + last
+            began = time.monotonic()
+            client = subprocess.run([sys.executable, "-c", script], stdout=subprocess.PIPE, encoding="ascii", check=False)
+            self.assertTrue(ends(int(client.stdout)))
+            self.assertLess(time.monotonic() - began, 10)
+
     def test_a_program_that_stands_still(self):
         retro = Retro(STILL, timeout=0.1)
         pid = retro._process.pid
@@ -389,6 +399,11 @@ class Processes(unittest.TestCase):
             with Retro(STILL, timeout=0.05) as retro:
                 retro.send("new q queue")
         self.assertEqual((caught.exception.seconds, retro.status), (0.05, -9))
+
+    def test_a_program_that_gives_an_answer_piece_by_piece(self):
+        """The time counts from the last byte that it gave."""
+        with Retro(PIECES, timeout=1) as retro:
+            self.assertEqual(retro.send("a ask size").answers, ("refused no timeline a",))
 
     def test_what_timed_out_is_read_first(self):
         with Retro(SLOW, timeout=0.02) as retro:

@@ -403,6 +403,23 @@ class Processes(Journals):
         with Journal(self.path, PROGRAM) as retro:
             self.assertEqual((retro.names, retro.save("q").rows[:-1]), ({"q": "queue", "p": "pq"}, rows))
 
+    def test_a_block_that_would_not_fit(self):
+        """The lines of an open block count before they are written."""
+        with Journal(self.path, PROGRAM, most=2000) as retro:
+            retro.line("timeline q queue next 999")
+            with self.assertRaises(Full):
+                for number in range(1, 100):
+                    retro.line("#%d %d enq 1" % (number, number))
+            self.assertLess(number, 12)
+
+    def test_a_compaction_says_how_many_steps_it_loses(self):
+        with Journal(self.path, PROGRAM, fsync=False) as retro:
+            list(retro.stream(["new q queue", *["q at 5 enq 1"] * 1030, "q undo"]))
+            self.assertEqual(retro.compact().steps, {"q": 1024})
+            retro.line("q at 5 enq 1")
+        with Journal(self.path, PROGRAM) as retro:
+            self.assertEqual(retro.compact().steps, {"q": 1})
+
     def test_interruptions(self):
         """Whatever an alarm interrupts, what was answered is there, and the answers stay those of the lines."""
 

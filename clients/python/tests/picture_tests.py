@@ -42,6 +42,7 @@ class Pictures(unittest.TestCase):
     def test_a_stretch(self):
         self.assertEqual(len(Drawn(svg(self.DAY, 40, 60)).bars), 1)
         self.assertEqual(len(Drawn(svg(self.DAY, 91)).bars), 0)
+        self.assertEqual([len(Drawn(svg(self.DAY, *span)).bars) for span in ((0, 19), (0, 20), (30, 60), (31, 60), (90,))], [1, 2, 2, 1, 1])
         self.assertEqual(len(Drawn(svg(saved("queue"))).bars), 0)
 
     def test_many_entries(self):

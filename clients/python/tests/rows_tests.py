@@ -143,6 +143,17 @@ class Files(unittest.TestCase):
             found = recover("timeline q pq next 9\n#1 10 ins 4\n%s\n#3 30 delmin\nend\n" % bad)
             self.assertEqual(found, Recovered(saved("pq", 9, (1, 10, "ins 4")), None, bad + "\n#3 30 delmin\nend\n"))
 
+    def test_the_greatest_numbers(self):
+        text = "timeline q pq next 16777216\n#16777215 18446744073709551615 ins %d\n" % -(2**63)
+        whole = saved("pq", 16777216, (16777215, 2**64 - 1, "ins %d" % -(2**63)))
+        self.assertEqual((Saved.read(text + "end\n"), recover(text).saved), (whole, whole))
+        for last, greater in (("#16777215", "#16777216"), (" 18446744073709551615", " 18446744073709551616"), ("-9223372036854775808", "-9223372036854775809")):
+            self.assertRaises(ValueError, Saved.read, text.replace(last, greater) + "end\n")
+
+    def test_a_block_with_its_end_and_not_all_rows(self):
+        found = recover("timeline q queue next 3 rows 2\n#1 10 enq 5\nend\n")
+        self.assertEqual((found.saved.rows, found.missing, found.whole), ((Row(1, 10, "enq 5"),), 1, False))
+
     def test_a_file_with_carriage_returns(self):
         text = "timeline q queue next 2 rows 1\r\n#1 10 enq 5\r\nend\r\n"
         with open(self.place, "w", newline="") as file:
@@ -173,6 +184,10 @@ class Merges(unittest.TestCase):
         rows = ((1, 10, "enq 5"), (4, 15, "enq 7"), (6, 15, "enq 8"), (3, 30, "deq"), (5, 40, "deq"))
         self.assertEqual((merged.saved, merged.numbers), (saved("queue", 7, *rows), {4: 6}))
         self.assertEqual([row.number for row in merge(ours, theirs).saved.rows], [1, 4, 6, 2, 3, 5])
+
+    def test_the_second_has_drawn_more_numbers(self):
+        ours, theirs = saved("queue", 2, (1, 10, "enq 5")), saved("queue", 9, (1, 20, "enq 6"))
+        self.assertEqual(merge(ours, theirs).saved, saved("queue", 10, (1, 10, "enq 5"), (9, 20, "enq 6")))
 
     def test_what_both_took(self):
         base = saved("queue", 2, (1, 10, "enq 5"))

@@ -109,6 +109,7 @@ class Parts(unittest.TestCase):
     def test_the_same_part_in_every_run(self):
         """By the check sum of its text, of which the value for nine digits is well known."""
         self.assertEqual([part_of(key, 1000) for key in ("123456789", 123456789)], [0xCBF43926 % 1000] * 2)
+        self.assertEqual(len(partition([("a name of a file \udcff", 1)], 3)), 3)
 
     def test_parts_are_alike_in_size(self):
         sizes = [len(part) for part in partition([("key %d" % number,) for number in range(8000)], 8)]
