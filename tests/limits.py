@@ -7,6 +7,7 @@ PROGRAM is build/retro where none is named. Each input is made here line by line
 line says how many have passed and failed.
 """
 
+import itertools
 import os
 import resource
 import subprocess
@@ -232,6 +233,30 @@ def checkpoints_that_go_where_rows_go():
     yield "p ask at 39500 min", "= 39001"
 
 
+def questions_in_order_of_time():
+    """Of 3,000 rows, at each place in turn; then one more comes in before the last ones."""
+    yield from entries(3_000)
+    for place in range(3_000):
+        yield "p ask at %d size" % place, "= %d" % place
+    yield "p after #2500 ins 0", "edit p add 2500 #3001 ins 0 bridge 2500 gain #3001 0"
+    yield "p ask before #2990 size", "= 2990"
+
+
+def a_checkpoint_that_is_made_and_dropped_by_turns():
+    """Of 2,100 rows; one more comes in after the five hundredth, and goes again."""
+    yield from entries(2_100)
+    yield "p ask at 1050 size", "= 1050"
+    for number in range(2_101, 2_121):
+        yield "p after #500 ins 0", "edit p add 500 #%d ins 0 bridge 500 gain #%d 0" % (number, number)
+        for place in (525, 1_050):
+            yield "p ask before #%d size" % place, "= %d" % place
+        yield "p ask at 2100 size", "= 2101"
+        yield "p delete #%d" % number, "edit p cut 500 #%d ins 0 bridge none lose #%d 0" % (number, number)
+    for place in (0, 525, 1_050, 2_100):
+        yield "p ask at %d size" % place, "= %d" % place
+    yield "p ask at 600 nth 550", "= 551"
+
+
 def a_checkpoint_too_many():
     """It doubles the width between them."""
     yield from entries(32_700)
@@ -335,6 +360,44 @@ def many_lifetimes_at_one_moment():
         yield "d ask at %d sum 0 99" % time, "= %d" % sum(key * key for key in range(time + 1))
 
 
+def lifetimes_that_become_many():
+    """Keys that are there for fifty moments each: 255 of them, which are few, and one more; then 400, of which most go and one stays
+    longer."""
+    lives, rows, numbers = {}, {}, itertools.count(1)
+
+    def added(first, last):
+        for key in range(first, last):
+            lives[key], rows[key] = (key, key + 50), (next(numbers), next(numbers))
+            yield "d at %d put %d 1" % (key, key), "ok #%d" % rows[key][0]
+            yield "d at %d del %d" % (key + 50, key), "ok #%d" % rows[key][1]
+
+    def taken(first, last):
+        for key in range(first, last):
+            del lives[key]
+            for number in reversed(rows[key]):
+                yield "d delete #%d" % number, "ok"
+
+    def told(*moments):
+        for moment in moments:
+            count = sum(begin <= moment < end for begin, end in lives.values())
+            yield "d ask at %d size" % moment, "= %d" % count
+            yield "d ask at %d sum 0 999" % moment, "= %d" % count
+
+    yield "new d dict", "ok"
+    yield from added(0, 255)
+    yield from told(0, 49, 254, 255, 304)
+    yield from added(255, 256)
+    yield from told(0, 49, 254, 255, 304)
+    yield from taken(255, 256)
+    yield from told(254, 255, 304)
+    yield from added(255, 400)
+    yield from told(0, 10, 49, 60, 399, 448, 449)
+    lives[10] = (10, 140)
+    yield "d move #%d at 140" % rows[10][1], "ok #%d" % next(numbers)
+    yield from taken(20, 390)
+    yield from told(0, 19, 65, 69, 139, 140, 395, 440)
+
+
 SCRIPTS = [
     more_steps_than_are_kept,
     lines_that_are_too_long,
@@ -350,12 +413,15 @@ SCRIPTS = [
     many_rows_of_a_dictionary_at_one_place,
     a_gap_between_checkpoints_that_is_split,
     checkpoints_that_go_where_rows_go,
+    questions_in_order_of_time,
+    a_checkpoint_that_is_made_and_dropped_by_turns,
     a_checkpoint_too_many,
     a_full_priority_queue,
     a_full_fused_queue,
     a_full_dictionary,
     a_timeline_that_is_filled_and_emptied,
     many_lifetimes_at_one_moment,
+    lifetimes_that_become_many,
 ]
 
 # Evidence with a line of more than 4,096 bytes: a line of evidence is none then, and another one is passed over, however long it is.
