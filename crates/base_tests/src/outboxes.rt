@@ -1,9 +1,6 @@
 //! Outboxes before a sink in memory.
 
-ghost use Rattle.std.specs.Prelude.{◌≤◌, None};
-ghost use Rattle.retro_io.specs.Faults.{last_count};
-
-use retro_io::{Failed, MemorySink, Outbox, SendingSink, Sink, put_all};
+use retro_io::{MemorySink, Outbox, SendingSink, Sink, put_all};
 use std::alloc::Global;
 use std::process::Abort;
 
@@ -96,55 +93,4 @@ fn a_send_passes_on_what_waits(rt: HostRuntime) {
     assert!(rt; matches!(outbox.write(b"ok\n"), Ok(3)));
     assert!(rt; outbox.send().is_err());
     assert!(rt; outbox.sink().written() == b"ok\n".as_slice());
-}
-
-/// A sink that takes all, and of which the first flush fails and no later one.
-#[derive(Drop)]
-struct FirstFlushFails {
-    flushes: u64,
-    flushed: bool,
-    faults: u64,
-    ghost counted: { faults ≤ last_count },
-}
-
-impl Sink for FirstFlushFails {
-    ghost written = { λ _. None };
-
-    ghost flushed = { λ s. s.flushed };
-
-    ghost faults = { λ s. s.faults };
-
-    ghost writes = { λ _ _ _ _. Unit {0} };
-
-    ghost flushes = { λ _ _ _. Unit {0} };
-
-    fn write(&mut self, piece: &[u8]) -> Result<usize, Failed> {
-        self.flushed = false;
-        Ok(piece.len())
-    }
-
-    fn flush(&mut self) -> Result<(), Failed> {
-        self.flushes = self.flushes.saturating_add(1);
-        self.flushed = self.flushes > 1;
-        if self.flushed {
-            return Ok(());
-        }
-        self.faults = self.faults.saturating_add(1);
-        Err(Failed)
-    }
-}
-
-#[test]
-fn a_flush_that_fails_is_the_last(rt: HostRuntime) {
-    let sink = FirstFlushFails {
-        flushes: 0,
-        flushed: false,
-        faults: 0,
-    };
-    let mut outbox = Outbox::new(rt.alloc(), sink).expect(&rt, "memory");
-    assert!(rt; matches!(outbox.write(b"ok\n"), Ok(3)));
-    for _ in 0..3 {
-        assert!(rt; outbox.flush().is_err());
-    }
-    assert!(rt; outbox.sink().flushes == 1);
 }

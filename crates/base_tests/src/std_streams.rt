@@ -1,6 +1,8 @@
 //! Sources and sinks over streams of std, each kind of error among them.
 
-use retro_io::{Failed, Sink, Source, StdSink, StdSource};
+ghost use Rattle.std.specs.Prelude.{◌≤◌, IfOk};
+
+use retro_io::{Failed, Sink, Source, StdSink, StdSource, put_all};
 use std::io::{self, ErrorKind, Read, Write};
 use std::process::Abort;
 
@@ -50,59 +52,72 @@ const KINDS: [ErrorKind; 42] = [
     ErrorKind::Uncategorized,
 ];
 
-/// A stream whose first call of each sort fails with an error of this kind, and which then gives what is asked for and takes what it is
-/// handed.
-#[derive(Drop)]
-struct FailsOnce {
-    kind: ErrorKind,
-    read: bool,
-    written: bool,
-    flushed: bool,
+/// What becomes of a call of a stream: all is given that is asked for, or taken that is handed to it, or half of that, or nothing; or it
+/// fails with an error of this kind.
+#[derive(Clone, Copy)]
+enum Outcome {
+    All,
+    Half,
+    Nothing,
+    Fails(ErrorKind),
 }
 
-impl FailsOnce {
-    fn new(kind: ErrorKind) -> FailsOnce {
-        FailsOnce {
-            kind,
-            read: false,
-            written: false,
-            flushed: false,
+const BREAKS: Outcome = Outcome::Fails(ErrorKind::BrokenPipe);
+
+/// A stream whose calls, of whatever sort, come out in the one way and the other by turns.
+#[derive(Drop)]
+struct ByTurns {
+    next: Outcome,
+    other: Outcome,
+}
+
+impl ByTurns {
+    /// One call more, with so many bytes.
+    fn turn(&mut self, length: usize) -> io::Result<usize>
+        ensures { IfOk result (λ count. count ≤ length) }
+    {
+        let outcome = self.next;
+        self.next = self.other;
+        self.other = outcome;
+        match outcome {
+            Outcome::All => Ok(length),
+            Outcome::Half => Ok(length / 2),
+            Outcome::Nothing => Ok(0),
+            Outcome::Fails(kind) => Err(kind.into()),
         }
     }
 }
 
-/// An error of this kind at the first call, which this notes.
-fn fail_once(kind: ErrorKind, before: &mut bool) -> io::Result<()> {
-    if *before {
-        return Ok(());
-    }
-    *before = true;
-    Err(kind.into())
-}
-
-impl Read for FailsOnce {
+impl Read for ByTurns {
     fn read(&mut self, buffer: &mut [u8]) -> io::Result<usize> {
-        fail_once(self.kind, &mut self.read)?;
-        Ok(buffer.len())
+        self.turn(buffer.len())
     }
 }
 
-impl Write for FailsOnce {
+impl Write for ByTurns {
     fn write(&mut self, piece: &[u8]) -> io::Result<usize> {
-        fail_once(self.kind, &mut self.written)?;
-        Ok(piece.len())
+        self.turn(piece.len())
     }
 
     fn flush(&mut self) -> io::Result<()> {
-        fail_once(self.kind, &mut self.flushed)
+        self.turn(0)?;
+        Ok(())
     }
 }
 
+fn source(next: Outcome, other: Outcome) -> StdSource<ByTurns> {
+    StdSource::new(ByTurns { next, other })
+}
+
+fn sink(next: Outcome, other: Outcome) -> StdSink<ByTurns> {
+    StdSink::new(ByTurns { next, other })
+}
+
 fn expect_one_failure(rt: &impl Abort, kind: ErrorKind) {
-    let mut source = StdSource::new(FailsOnce::new(kind));
+    let mut source = source(Outcome::Fails(kind), Outcome::All);
     assert_eq!(rt; source.read(&mut [0; 16]), Err(Failed));
     assert_eq!(rt; source.read(&mut [0; 16]), Ok(16));
-    let mut sink = StdSink::new(FailsOnce::new(kind));
+    let mut sink = sink(Outcome::Fails(kind), Outcome::All);
     assert!(rt; sink.write(b"abc").is_err());
     assert!(rt; sink.write(b"abc") == Ok(3));
     // A write flushes nothing, so the first flush is still to come.
@@ -117,22 +132,9 @@ fn a_call_that_fails_is_not_tried_again_or_hidden(rt: HostRuntime) {
     }
 }
 
-/// A stream that answers the end at every second read, and else gives all that it is asked for.
-#[derive(Drop)]
-struct EndsInTurn {
-    ends: bool,
-}
-
-impl Read for EndsInTurn {
-    fn read(&mut self, buffer: &mut [u8]) -> io::Result<usize> {
-        self.ends = !self.ends;
-        if self.ends { Ok(0) } else { Ok(buffer.len()) }
-    }
-}
-
 #[test]
 fn a_read_is_one_read_of_all_that_is_asked_for(rt: HostRuntime) {
-    let mut source = StdSource::new(EndsInTurn { ends: false });
+    let mut source = source(Outcome::Nothing, Outcome::All);
     let mut buffer = vec![in rt.alloc(); 0; 65_536].expect(&rt, "memory");
     // In all 1.3 gigabytes, which are more than a script may have.
     for _ in 0..20_000 {
@@ -141,30 +143,10 @@ fn a_read_is_one_read_of_all_that_is_asked_for(rt: HostRuntime) {
     }
 }
 
-/// A stream that gives all that it is asked for, and takes all that it is handed.
-#[derive(Drop)]
-struct Willing;
-
-impl Read for Willing {
-    fn read(&mut self, buffer: &mut [u8]) -> io::Result<usize> {
-        Ok(buffer.len())
-    }
-}
-
-impl Write for Willing {
-    fn write(&mut self, piece: &[u8]) -> io::Result<usize> {
-        Ok(piece.len())
-    }
-
-    fn flush(&mut self) -> io::Result<()> {
-        Ok(())
-    }
-}
-
 #[test]
 fn streams_are_handed_all_of_every_size(rt: HostRuntime) {
-    let mut source = StdSource::new(Willing);
-    let mut sink = StdSink::new(Willing);
+    let mut source = source(Outcome::All, Outcome::All);
+    let mut sink = sink(Outcome::All, Outcome::All);
     for length in [0, 1, 2, 7, 15, 16, 17, 4096, 4097, 65_535, 65_536] {
         let mut bytes = vec![in rt.alloc(); 0; length].expect(&rt, "memory");
         assert!(rt; source.read(&mut bytes) == Ok(length));
@@ -172,47 +154,11 @@ fn streams_are_handed_all_of_every_size(rt: HostRuntime) {
     }
 }
 
-/// A stream whose every second call fails, and which else gives half of what is asked for and takes half of what it is handed.
-#[derive(Drop)]
-struct FailsInTurn {
-    fails: bool,
-}
-
-impl FailsInTurn {
-    /// Notes one call more.
-    fn turn(&mut self) -> io::Result<()> {
-        self.fails = !self.fails;
-        if self.fails {
-            Err(ErrorKind::BrokenPipe.into())
-        } else {
-            Ok(())
-        }
-    }
-}
-
-impl Read for FailsInTurn {
-    fn read(&mut self, buffer: &mut [u8]) -> io::Result<usize> {
-        self.turn()?;
-        Ok(buffer.len() / 2)
-    }
-}
-
-impl Write for FailsInTurn {
-    fn write(&mut self, piece: &[u8]) -> io::Result<usize> {
-        self.turn()?;
-        Ok(piece.len() / 2)
-    }
-
-    fn flush(&mut self) -> io::Result<()> {
-        self.turn()
-    }
-}
-
 #[test]
 fn a_call_is_one_call_of_the_stream(rt: HostRuntime) {
-    let mut source = StdSource::new(FailsInTurn { fails: true });
-    let mut writer = StdSink::new(FailsInTurn { fails: true });
-    let mut flusher = StdSink::new(FailsInTurn { fails: true });
+    let mut source = source(Outcome::Half, BREAKS);
+    let mut writer = sink(Outcome::Half, BREAKS);
+    let mut flusher = sink(Outcome::Half, BREAKS);
     for _ in 0..2 {
         assert_eq!(rt; source.read(&mut [0; 16]), Ok(8));
         assert_eq!(rt; source.read(&mut [0; 16]), Err(Failed));
@@ -221,4 +167,12 @@ fn a_call_is_one_call_of_the_stream(rt: HostRuntime) {
         assert!(rt; flusher.flush().is_ok());
         assert!(rt; flusher.flush().is_err());
     }
+}
+
+#[test]
+fn a_write_that_takes_nothing_is_a_fault(rt: HostRuntime) {
+    let mut sink = sink(Outcome::Nothing, BREAKS);
+    assert!(rt; put_all(&mut sink, b"").is_ok());
+    assert!(rt; put_all(&mut sink, b"a").is_err());
+    assert!(rt; sink.flush().is_err());
 }

@@ -8,7 +8,7 @@ use retro_io::{
     WholeSource, put_all,
 };
 use std::alloc::Global;
-use std::io::{self, ErrorKind, Read, Write, pipe};
+use std::io::pipe;
 use std::process::Abort;
 
 /// What a reader answers until the end or an error: a `W` or an `L` before each line, and a `|` after it; then an `E`, or an
@@ -182,34 +182,4 @@ fn std_streams_pass_bytes_on(rt: HostRuntime) {
     drop(sink);
     let mut source = StdSource::new(reader);
     expect_answers(&rt, rt.alloc(), &mut source, 1 << 30, b"Wab|Wcd|E");
-}
-
-/// A stream whose reads fail and whose writes take nothing.
-#[derive(Drop)]
-struct Broken;
-
-impl Read for Broken {
-    fn read(&mut self, _buffer: &mut [u8]) -> io::Result<usize> {
-        Err(ErrorKind::BrokenPipe.into())
-    }
-}
-
-impl Write for Broken {
-    fn write(&mut self, _piece: &[u8]) -> io::Result<usize> {
-        Ok(0)
-    }
-
-    fn flush(&mut self) -> io::Result<()> {
-        Err(ErrorKind::BrokenPipe.into())
-    }
-}
-
-#[test]
-fn broken_streams_fail(rt: HostRuntime) {
-    let mut source = StdSource::new(Broken);
-    expect_answers(&rt, rt.alloc(), &mut source, 1 << 30, b"F");
-    let mut sink = StdSink::new(Broken);
-    assert!(rt; put_all(&mut sink, b"").is_ok());
-    assert!(rt; put_all(&mut sink, b"a").is_err());
-    assert!(rt; sink.flush().is_err());
 }
