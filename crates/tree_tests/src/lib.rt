@@ -2,15 +2,14 @@
 //! change of a test proves none of the crates anew.
 //!
 //! One file for each crate: `monoids` of `monoid_laws`, `weighted` of `weighted_tree`, `prefixes` of `prefix_trees`, `labels` of
-//! `order_labels`, `timelines` of `order_timeline`, `keys` of `key_index`, `lifetimes` of `lifetime_segments`.
+//! `order_labels`, `timelines` of `order_timeline`, `keys` of `key_index`. Lifetimes are tested beside the dictionary, and the rows
+//! of lines of items beside queue, stack and deque (`structure_tests`).
 #![tactic(auto)]
 
 #[cfg(test)]
 mod keys;
 #[cfg(test)]
 mod labels;
-#[cfg(test)]
-mod lifetimes;
 #[cfg(test)]
 mod monoids;
 #[cfg(test)]
