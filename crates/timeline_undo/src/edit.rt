@@ -12,7 +12,7 @@ ghost use Rattle.timeline_undo.specs.declared.turn.Turns.TheVariants.{Double};
 use crate::history::{HistoryEdit, HistoryStep};
 use crate::{Turn, Turns};
 use order_timeline::Timeline;
-use retro_base::{Change, NoMemory, Retro, Row};
+use retro_base::{NoMemory, Retro, Row};
 
 /// Where a step met out of memory.
 #[derive(Clone, Copy)]
@@ -97,24 +97,8 @@ fn make<R: Retro>(
     ensures err { OnErr result (timeline.new ≡ timeline.old) }
 {
     match edit {
-        HistoryEdit::Added { place, row } => {
-            let change = put_in_both(timeline, structure, place, row)?;
-            Ok(Turn {
-                added: true,
-                place,
-                row,
-                change,
-            })
-        }
-        HistoryEdit::Taken { place, .. } => {
-            let (row, change) = take_from_both(timeline, structure, place)?;
-            Ok(Turn {
-                added: false,
-                place,
-                row,
-                change,
-            })
-        }
+        HistoryEdit::Added { place, row } => put_in_both(timeline, structure, place, row),
+        HistoryEdit::Taken { place, .. } => take_from_both(timeline, structure, place),
     }
 }
 
@@ -124,7 +108,7 @@ pub(crate) fn put_in_both<R: Retro>(
     structure: &mut R,
     place: u32,
     row: Row,
-) -> Result<Change, NoMemory>
+) -> Result<Turn, NoMemory>
     requires same { R.rows structure.old ≡ timeline.old }
     requires before { IsReplayable (R.kind structure.old) timeline.old }
     requires within { place ≤ length timeline.old }
@@ -133,12 +117,19 @@ pub(crate) fn put_in_both<R: Retro>(
     ensures kind { R.kind structure.new ≡ R.kind structure.old }
     ensures same { R.rows structure.new ≡ timeline.new }
     ensures rows { IfOk result (λ _. timeline.new ≡ insert timeline.old place row) }
-    ensures made { IfOk result (IsMade (R.kind structure.old) timeline.old (add place row)) }
+    ensures row { IfOk result (λ turn. turn.row ≡ row) }
+    ensures reported { IfOk result (λ turn. edit_reported turn ≡ add place row) }
+    ensures made { IfOk result (λ turn. IsMade (R.kind structure.old) timeline.old (edit_reported turn) turn.change) }
     ensures err { OnErr result (timeline.new ≡ timeline.old) }
 {
     timeline.insert(place, row)?;
     match structure.insert(place, row) {
-        Ok(change) => Ok(change),
+        Ok(change) => Ok(Turn {
+            added: true,
+            place,
+            row,
+            change,
+        }),
         Err(NoMemory) => {
             timeline.remove(place);
             Err(NoMemory)
@@ -146,12 +137,12 @@ pub(crate) fn put_in_both<R: Retro>(
     }
 }
 
-/// Takes the row at a place out, in both, and gives it. After `NoMemory` both are as before.
+/// Takes the row at a place out, in both. After `NoMemory` both are as before.
 pub(crate) fn take_from_both<R: Retro>(
     timeline: &mut Timeline,
     structure: &mut R,
     place: u32,
-) -> Result<(Row, Change), NoMemory>
+) -> Result<Turn, NoMemory>
     requires same { R.rows structure.old ≡ timeline.old }
     requires before { IsReplayable (R.kind structure.old) timeline.old }
     requires within { place < length timeline.old }
@@ -159,11 +150,17 @@ pub(crate) fn take_from_both<R: Retro>(
     ensures kind { R.kind structure.new ≡ R.kind structure.old }
     ensures same { R.rows structure.new ≡ timeline.new }
     ensures rows { IfOk result (λ _. timeline.new ≡ remove timeline.old place) }
-    ensures row { IfOk result (λ taken. slice_get timeline.old place ≡ Some taken.0) }
-    ensures made { IfOk result (λ taken. IsMade (R.kind structure.old) timeline.old (cut place taken.0) taken.1) }
+    ensures row { IfOk result (λ turn. slice_get timeline.old place ≡ Some turn.row) }
+    ensures reported { IfOk result (λ turn. edit_reported turn ≡ cut place turn.row) }
+    ensures made { IfOk result (λ turn. IsMade (R.kind structure.old) timeline.old (edit_reported turn) turn.change) }
     ensures err { OnErr result (timeline.new ≡ timeline.old) }
 {
     let (row, change) = structure.remove(place)?;
     timeline.remove(place);
-    Ok((row, change))
+    Ok(Turn {
+        added: false,
+        place,
+        row,
+        change,
+    })
 }

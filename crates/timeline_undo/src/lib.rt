@@ -1,8 +1,8 @@
 //! A timeline that is corrected, and whose corrections can be undone.
 //!
 //! A [`Session`] holds the rows of a timeline beside the structure that performs them, and its type keeps that both
-//! have the same rows. An edit is judged by the structure before anything is changed: `put` and `cut` do it whole, or
-//! name the first row that could no longer be performed. Each accepted edit is a step of the session's history. `undo`
+//! have the same rows. An edit is judged by the structure before anything is changed: `put`, `insert` and `cut` do it
+//! whole, or name the first row that could no longer be performed. Each accepted edit is a step of the session's history. `undo`
 //! takes the newest step back, with the same row at the same place, and `redo` makes it again, until another edit comes.
 //! Of its steps a session keeps the last 1,024; it takes the memory for them when it is made.
 //!
@@ -22,7 +22,7 @@
 //!
 //! | Call | Cost |
 //! |---|---|
-//! | `put`, `cut`, `append` | an edit of the timeline and one of the structure |
+//! | `put`, `insert`, `cut`, `append` | an edit of the timeline and one of the structure |
 //! | `undo`, `redo` | that for each list edit of the step |
 //! | `shift` | that twice; a walk over all rows too, where the rows do not replay or one search does not show that they do |
 //! | `ask_now`, `ask`, `all` | those of the structure |

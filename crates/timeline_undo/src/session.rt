@@ -123,7 +123,7 @@ impl<R: Retro + Drop> Session<R> {
         self.structure.kind()
     }
 
-    /// Puts in a row that draws the next number. After every error all is as before.
+    /// `insert`, which tells the number of the row and the change alone.
     pub fn put(&mut self, place: u32, time: u64, op: Op) -> Result<Put, EditError>
         requires unspent { self.old.spent ≡ false }
         requires stands { CanStand self.old.rows place time }
@@ -135,6 +135,26 @@ impl<R: Retro + Drop> Session<R> {
         ensures cause { IfErr result (IsCause self.old.kind self.old.rows (add place (drawn self.old time op))) }
         ensures err { OnErr result (self.new ≡ self.old) }
     {
+        let turn = self.insert(place, time, op)?;
+        Ok(Put {
+            number: turn.row.number,
+            change: turn.change,
+        })
+    }
+
+    /// Puts in a row that draws the next number. After every error all is as before.
+    pub fn insert(&mut self, place: u32, time: u64, op: Op) -> Result<Turn, EditError>
+        requires unspent { self.old.spent ≡ false }
+        requires stands { CanStand self.old.rows place time }
+        requires room { HasRoom self.old.rows self.old.next }
+        requires of_kind { kind_of op ≡ self.old.kind }
+        ensures session { OnOk result (self.new ≡ with_insert self.old place (drawn self.old time op)) }
+        ensures row { IfOk result (λ turn. turn.row ≡ drawn self.old time op) }
+        ensures reported { IfOk result (λ turn. edit_reported turn ≡ add place (drawn self.old time op)) }
+        ensures made { IfOk result (λ turn. IsMade self.old.kind self.old.rows (edit_reported turn) turn.change) }
+        ensures cause { IfErr result (IsCause self.old.kind self.old.rows (add place (drawn self.old time op))) }
+        ensures err { OnErr result (self.new ≡ self.old) }
+    {
         let row = Row {
             number: self.next,
             time,
@@ -143,14 +163,11 @@ impl<R: Retro + Drop> Session<R> {
         if let Some(index) = self.structure.failure_after_insert(place, op) {
             return Err(fails_at(row_after_insert(&self.timeline, place, row, index)));
         }
-        let change = put_in_both(&mut self.timeline, &mut self.structure, place, row)?;
+        let turn = put_in_both(&mut self.timeline, &mut self.structure, place, row)?;
         let edit = HistoryEdit::Added { place, row };
         note(&mut self.undo, &mut self.redo, HistoryStep::Single { edit });
         self.next += 1;
-        Ok(Put {
-            number: row.number,
-            change,
-        })
+        Ok(turn)
     }
 
     /// Appends a row that has a number already, as one of a block that is read has. It is no step of the history,
@@ -164,7 +181,8 @@ impl<R: Retro + Drop> Session<R> {
         ensures err { OnErr result (self.new ≡ self.old) }
     {
         let place = self.timeline.len();
-        put_in_both(&mut self.timeline, &mut self.structure, place, row)
+        let turn = put_in_both(&mut self.timeline, &mut self.structure, place, row)?;
+        Ok(turn.change)
     }
 
     /// Takes the row at a place out. After every error all is as before.
@@ -182,15 +200,13 @@ impl<R: Retro + Drop> Session<R> {
         if let Some(index) = self.structure.failure_after_remove(place) {
             return Err(fails_at(row_after_remove(&self.timeline, place, index)));
         }
-        let (row, change) = take_from_both(&mut self.timeline, &mut self.structure, place)?;
-        let edit = HistoryEdit::Taken { place, row };
-        note(&mut self.undo, &mut self.redo, HistoryStep::Single { edit });
-        Ok(Turn {
-            added: false,
+        let turn = take_from_both(&mut self.timeline, &mut self.structure, place)?;
+        let edit = HistoryEdit::Taken {
             place,
-            row,
-            change,
-        })
+            row: turn.row,
+        };
+        note(&mut self.undo, &mut self.redo, HistoryStep::Single { edit });
+        Ok(turn)
     }
 
     /// Replaces the row at a place in one step, by a row that draws the next number. Whether the rows after both list edits replay

@@ -1,19 +1,17 @@
 -- The timelines as the bench keeps them: what is seen of one that was changed, and that none is of a spent session.
-use Rattle.std.proofs.Common.{◌≡◌, ℕ, zero, suc, ◌+◌, ◌<◌, Bool, true, false, List, [], ◌∷◌, ◌++◌, length, get_or, set, position, refl, sym, ◌∙◌, ap, subst, arith, Some, Result, Ok, Err, IfOk, OnErr, OnOk}
+use Rattle.std.proofs.Common.{◌≡◌, ℕ, zero, suc, ◌+◌, ◌<◌, Bool, true, false, List, [], ◌∷◌, ◌++◌, length, get_or, set, position, refl, sym, ◌∙◌, ap, subst, arith, Some, Result, Ok, Err, IfOk, OnOk}
 use Rattle.std.specs.List.{list_any, position_from, remove, AllByRecursion}
 use Rattle.std.specs.Prelude.{slice_get, IfSome, ◌||◌}
 use Rattle.std.proofs.lemmas.List.{get_or-map, map-set, length-map}
 use Rattle.std.proofs.lemmas.List.Quantifiers.{position-Some}
 use Rattle.std.proofs.lemmas.Iterator.Adapters.{position_from-zero}
 use Rattle.timeline_undo.specs.Session.{SessionState}
-use Rattle.workbench.specs.declared.outcome.Outcome.{Outcome}
 use Rattle.workbench.specs.Bench.{KeptTimeline, NamedTimeline, IsUnspent, has_timeline, is_kept_as, is_named, kept_over, named, shown, timeline_of}
-use Rattle.workbench.specs.Outcome.{is_refusal, reply_text}
 use Rattle.workbench.specs.Reaction.{on_named}
-use Rattle.workbench.specs.TimelineEffects.{TimelineEffect, unchanged}
-use Rattle.workbench.specs.AnsweredLine.{told}
-use Rattle.workbench.proofs.Named.{asked, changed, on_named_found, reported, session_found}
-use Rattle.workbench.proofs.AnsweredLine.{told_by}
+use Rattle.workbench.specs.TimelineEffects.{TimelineEffect}
+use Rattle.workbench.specs.AnsweredLine.{IsTold, told}
+use Rattle.workbench.proofs.Named.{on_named_found, session_found}
+use Rattle.workbench.proofs.AnsweredLine.{told_of_all}
 
 abbrev seen_of : KeptTimeline → NamedTimeline
 seen_of kept = kept.timeline
@@ -28,50 +26,6 @@ seen_there : (kept : List KeptTimeline) (index : ℕ) (there : KeptTimeline) →
     → there.timeline ≡ get_or (shown kept) index there.timeline
 seen_there kept index there below is =
     ap (λ (k : KeptTimeline). k.timeline) is ∙ sym (get_or-map (λ (k : KeptTimeline). k.timeline) kept index there there.timeline below)
-
--- the bench after the effect on the timeline that was found
-pub kept_changed : {E : Type 0} (result : Result Outcome E) (name : List ℕ) (effect : NamedTimeline → TimelineEffect) (kept : List KeptTimeline) (index : ℕ) (there after : KeptTimeline)
-    → Some index ≡ position (is_named name) (shown kept) → there ≡ get_or kept index there
-    → IfOk result (λ outcome. effect there.timeline ≡ record { timeline = after.timeline; outcome = outcome })
-    → IfOk result (λ outcome. on_named name effect (shown kept) ≡ record { timelines = shown (set kept index after); outcome = outcome })
-kept_changed result name effect kept index there after at is took =
-    rw (map-set (λ (k : KeptTimeline). k.timeline) kept index after)
-    (changed result name effect (shown kept) index there.timeline after.timeline at (seen_there kept index there (found_below name kept index there at) is) took)
-
--- the same after a question to it
-pub kept_asked : {E : Type 0} (result : Result Outcome E) (name : List ℕ) (answer_at : NamedTimeline → Outcome) (kept : List KeptTimeline) (index : ℕ) (there after : KeptTimeline)
-    → Some index ≡ position (is_named name) (shown kept) → there ≡ get_or kept index there → after ≡ there → IfOk result (λ outcome. outcome ≡ answer_at there.timeline)
-    → IfOk result (λ outcome. on_named name (λ timeline. unchanged timeline (answer_at timeline)) (shown kept) ≡ record { timelines = shown (set kept index after); outcome = outcome })
-kept_asked result name answer_at kept index there after at is same answer =
-    rw (map-set (λ (k : KeptTimeline). k.timeline) kept index after)
-    (asked result name answer_at (shown kept) index there.timeline after.timeline at (seen_there kept index there (found_below name kept index there at) is)
-    (ap (λ (k : KeptTimeline). k.timeline) same) answer)
-
--- what is told of it
-pub kept_told : {E : Type 0} (result : Result Bool E) (name : List ℕ) (answer_at : NamedTimeline → Outcome) (kept : List KeptTimeline) (index : ℕ) (there after : KeptTimeline) (text : List ℕ)
-    → Some index ≡ position (is_named name) (shown kept) → there ≡ get_or kept index there → after ≡ there
-    → OnOk result (text ≡ reply_text (answer_at there.timeline)) → IfOk result (λ refused. refused ≡ is_refusal (answer_at there.timeline))
-    → IfOk result (λ refused. told (on_named name (λ timeline. unchanged timeline (answer_at timeline)) (shown kept))
-    ≡ record { timelines = shown (set kept index after); answer = text; refused = refused })
-kept_told result name answer_at kept index there after text at is same is_text is_refused =
-    told_by result (on_named name (λ timeline. unchanged timeline (answer_at timeline)) (shown kept)) (shown (set kept index after)) (answer_at there.timeline) text
-    (kept_asked {E = Unit {0}} (Ok (answer_at there.timeline)) name answer_at kept index there after at is same refl) is_text is_refused
-
--- and after one that only reads it
-pub kept_reported : {E : Type 0} (result : Result Outcome E) (name : List ℕ) (answer_at : NamedTimeline → Outcome) (kept : List KeptTimeline) (index : ℕ) (there : KeptTimeline)
-    → Some index ≡ position (is_named name) (shown kept) → there ≡ get_or kept index there → IfOk result (λ outcome. outcome ≡ answer_at there.timeline)
-    → IfOk result (λ outcome. on_named name (λ timeline. unchanged timeline (answer_at timeline)) (shown kept) ≡ record { timelines = shown kept; outcome = outcome })
-kept_reported result name answer_at kept index there at is answer =
-    reported result name answer_at (shown kept) index there.timeline at (seen_there kept index there (found_below name kept index there at) is) answer
-
--- out of memory at the timeline that was found, at a line that it does not refuse
-pub kept_memory : {X E : Type 0} (result : Result X E) (name : List ℕ) (effect : NamedTimeline → TimelineEffect) (kept : List KeptTimeline) (index : ℕ) (there : KeptTimeline)
-    → Some index ≡ position (is_named name) (shown kept) → there ≡ get_or kept index there
-    → OnErr result (is_refusal (effect there.timeline).outcome ≡ false) → OnErr result (is_refusal (on_named name effect (shown kept)).outcome ≡ false)
-kept_memory (Ok x) name effect kept index there at is stands = tt
-kept_memory (Err e) name effect kept index there at is stands =
-    ap (λ (effects : Rattle.workbench.specs.Reaction.Effect). is_refusal effects.outcome) (on_named_found name effect (shown kept) index there.timeline (sym at))
-    ∙ ap (λ t. is_refusal (effect t).outcome) (sym (seen_there kept index there (found_below name kept index there at) is)) ∙ stands
 
 -- the session of the timeline that was found
 pub kept_session : (name : List ℕ) (kept : List KeptTimeline) (index : ℕ) (there : KeptTimeline) (session : SessionState) → Some index ≡ position (is_named name) (shown kept)
@@ -127,16 +81,22 @@ pub index_shown : (name : List ℕ) (kept : List KeptTimeline) → position (is_
 index_shown name kept =
     position_from-zero (is_kept_as name) kept ∙ index_from name kept 0 ∙ sym (position_from-zero (is_named name) (shown kept))
 
--- the bench after a step of the timeline that was found, which goes where the step cut its session short
-pub kept_settled : {E : Type 0} (result : Result Outcome E) (name : List ℕ) (effect : NamedTimeline → TimelineEffect) (kept settled : List KeptTimeline) (index : ℕ) (there after : KeptTimeline)
-    → Some index ≡ position (is_named name) (shown kept) → there ≡ get_or kept index there
-    → IfOk result (λ outcome. effect there.timeline ≡ record { timeline = after.timeline; outcome = outcome }) → OnOk result (IsUnspent after)
+-- what is told of a command that the timeline that was found has performed, which goes where a step was cut short
+pub kept_told : {E : Type 0} (result : Result Bool E) (name : List ℕ) (effect : NamedTimeline → TimelineEffect) (kept settled : List KeptTimeline) (index : ℕ) (there after : KeptTimeline)
+    (before text : List ℕ) → before ≡ [] → Some index ≡ position (is_named name) (shown kept) → there ≡ get_or kept index there
+    → IfOk result (IsTold (effect there.timeline) after.timeline before text) → OnOk result (IsUnspent after)
     → (IfSome (slice_get (set kept index after) index) IsUnspent → settled ≡ set kept index after)
-    → IfOk result (λ outcome. on_named name effect (shown kept) ≡ record { timelines = shown settled; outcome = outcome })
-kept_settled (Ok outcome) name effect kept settled index there after at is took unspent same =
-    let there_still = put_there kept index after (found_below name kept index there at) in
-    rw (same (subst (λ o. IfSome o IsUnspent) (sym there_still) unspent)) (kept_changed {E = Unit {0}} (Ok outcome) name effect kept index there after at is took)
-kept_settled (Err e) name effect kept settled index there after at is took unspent same = tt
+    → IfOk result (λ refused. told (on_named name effect (shown kept)) ≡ record { timelines = shown settled; answer = text; refused = refused })
+kept_told (Ok refused) name effect kept settled index there after before text empty at is took unspent same =
+    let below : index < length kept = found_below name kept index there at in
+    rw (
+      same (subst (λ o. IfSome o IsUnspent) (sym (put_there kept index after below)) unspent),
+      map-set (λ (k : KeptTimeline). k.timeline) kept index after,
+      on_named_found name effect (shown kept) index there.timeline (sym at),
+      ← seen_there kept index there below is,
+    )
+    (told_of_all (effect there.timeline) (shown kept) index after.timeline before text refused empty took)
+kept_told (Err e) name effect kept settled index there after before text empty at is took unspent same = tt
 
 -- one more timeline
 pub shown_more : (kept : List KeptTimeline) (last : KeptTimeline) → shown (kept ++ last ∷ []) ≡ shown kept ++ last.timeline ∷ []

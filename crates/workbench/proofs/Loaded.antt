@@ -91,10 +91,10 @@ evidence_grows name kind rows index row old new there old_is new_is =
     ∙ sym (loaded_more name kind before row) ∙ ap (loaded_evidence name kind) (sym (take_more rows index row there))
 
 -- a row of a block was put in after those before it
-pub put_in_after : (kind session_kind : Kind) (rows session_rows : List Row) (index : ℕ) (row : Row) (edit : Edit) (change reported : Change) → slice_get rows index ≡ Some row
-    → session_kind ≡ kind → session_rows ≡ take index rows → edit ≡ add index row → reported ≡ change
-    → IsMade session_kind session_rows (add (length session_rows) row) change → IsMade kind (take index rows) edit reported
-put_in_after kind session_kind rows session_rows index row edit change reported there same_kind same_rows same_edit same_change made =
-    rw (same_edit, same_change, ← same_kind)
+pub put_in_after : (kind session_kind : Kind) (rows session_rows : List Row) (index : ℕ) (row : Row) (change : Change) → slice_get rows index ≡ Some row
+    → session_kind ≡ kind → session_rows ≡ take index rows
+    → IsMade session_kind session_rows (add (length session_rows) row) change → IsMade kind (take index rows) (add index row) change
+put_in_after kind session_kind rows session_rows index row change there same_kind same_rows made =
+    rw (← same_kind)
     (subst (λ n. IsMade session_kind (take index rows) (add n row) change) (taken_below rows index row there).0
     (subst (λ rs. IsMade session_kind rs (add (length rs) row) change) same_rows made))

@@ -1,17 +1,16 @@
 -- The timeline that has a name, and the effect on a bench of what becomes of it.
-use Rattle.std.proofs.Common.{◌≡◌, ℕ, zero, suc, ◌+◌, ◌<◌, nat_le, true, false, List, [], ◌∷◌, length, get_or, set, position, refl, sym, ◌∙◌, ap, arith, Some, None, Result, Ok, Err, IfOk}
+use Rattle.std.proofs.Common.{◌≡◌, ℕ, zero, suc, ◌+◌, ◌<◌, nat_le, true, false, List, [], ◌∷◌, length, get_or, set, position, refl, sym, ◌∙◌, ap, arith, Some, None}
 use Rattle.std.specs.List.{position_from}
 use Rattle.std.proofs.lemmas.List.Quantifiers.{position-Some}
 use Rattle.std.proofs.lemmas.Iterator.Adapters.{position_from-zero}
 use Rattle.retro_base.specs.Limits.{most_timelines}
-use Rattle.workbench.specs.declared.outcome.Outcome.{Outcome}
 use Rattle.workbench.specs.declared.outcome.Outcome.TheVariants.{Refused}
 use Rattle.workbench.specs.declared.outcome.Refusal.TheVariants as refusals
 use Rattle.std.proofs.lemmas.Slice.Eq.{bytes_eq-Decides}
 use Rattle.timeline_undo.specs.Session.{SessionState}
 use Rattle.workbench.specs.Bench.{NamedTimeline, is_named, has_timeline, named, timeline_of}
 use Rattle.workbench.specs.Reaction.{Effect, leaves, if_startable, with_first, on_named}
-use Rattle.workbench.specs.TimelineEffects.{TimelineEffect, unchanged}
+use Rattle.workbench.specs.TimelineEffects.{TimelineEffect}
 use Rattle.retro_base.specs.Facts.{some_is_not_none}
 
 pub taken_name : (timelines : List NamedTimeline) (name : List ℕ) (effect : Effect) → has_timeline name timelines ≡ true
@@ -40,39 +39,6 @@ pub on_named_found : (name : List ℕ) (effect : NamedTimeline → TimelineEffec
 on_named_found name effect bench index d at =
     let first = position-Some (is_named name) bench index d at in
     on_named_at name effect bench index d first.0 first.1 first.2
-
--- the bench after the effect on the timeline that was found
-pub changed : {E : Type 0} (result : Result Outcome E) (name : List ℕ) (effect : NamedTimeline → TimelineEffect) (bench : List NamedTimeline) (index : ℕ) (named after : NamedTimeline)
-    → Some index ≡ position (is_named name) bench → named ≡ get_or bench index named
-    → IfOk result (λ outcome. effect named ≡ record { timeline = after; outcome = outcome })
-    → IfOk result (λ outcome. on_named name effect bench ≡ record { timelines = set bench index after; outcome = outcome })
-changed (Ok outcome) name effect bench index named after at there took =
-    on_named_found name effect bench index named (sym at) ∙ rw (← there, took) refl
-changed (Err e) name effect bench index named after at there took = tt
-
--- the bench after a question to the timeline that was found
-pub asked : {E : Type 0} (result : Result Outcome E) (name : List ℕ) (answer_at : NamedTimeline → Outcome) (bench : List NamedTimeline) (index : ℕ) (named after : NamedTimeline)
-    → Some index ≡ position (is_named name) bench → named ≡ get_or bench index named → after ≡ named → IfOk result (λ outcome. outcome ≡ answer_at named)
-    → IfOk result (λ outcome. on_named name (λ timeline. unchanged timeline (answer_at timeline)) bench ≡ record { timelines = set bench index after; outcome = outcome })
-asked (Ok outcome) name answer_at bench index named after at there same answer =
-    changed {E = Unit {0}} (Ok outcome) name (λ timeline. unchanged timeline (answer_at timeline)) bench index named after at there (rw (same, answer) refl)
-asked (Err e) name answer_at bench index named after at there same answer = tt
-
--- an element put where it stands
-set_here : {X : Type 0} (xs : List X) (index : ℕ) (x : X) → index < length xs → x ≡ get_or xs index x → set xs index x ≡ xs
-set_here [] index x below here = absurd (omega arith)
-set_here (y ∷ ys) zero x below here = ap (λ z. z ∷ ys) here
-set_here (y ∷ ys) (suc index) x below here = ap (λ zs. y ∷ zs) (set_here ys index x (omega arith) here)
-
--- the bench after a question that only reads the timeline that was found
-pub reported : {E : Type 0} (result : Result Outcome E) (name : List ℕ) (answer_at : NamedTimeline → Outcome) (bench : List NamedTimeline) (index : ℕ) (named : NamedTimeline)
-    → Some index ≡ position (is_named name) bench → named ≡ get_or bench index named → IfOk result (λ outcome. outcome ≡ answer_at named)
-    → IfOk result (λ outcome. on_named name (λ timeline. unchanged timeline (answer_at timeline)) bench ≡ record { timelines = bench; outcome = outcome })
-reported (Ok outcome) name answer_at bench index named at there answer =
-    let below = (position-Some (is_named name) bench index named (sym at)).0 in
-    on_named_found name (λ timeline. unchanged timeline (answer_at timeline)) bench index named (sym at)
-    ∙ rw (← there, answer, set_here bench index named below there) refl
-reported (Err e) name answer_at bench index named at there answer = tt
 
 -- the timeline that was found
 found_at : (name : List ℕ) (bench : List NamedTimeline) (index : ℕ) (d : NamedTimeline) → index < length bench

@@ -5,7 +5,7 @@ ghost use Rattle.retro_base.specs.Limits.{longest_line};
 ghost use Rattle.script_grammar.specs.Command.{IsProper};
 ghost use Rattle.retro_base.specs.Replay.{present};
 ghost use Rattle.workbench.specs.Bench.{NamedTimeline, empty_bench, named, present_size, size_of, timeline_of};
-ghost use Rattle.workbench.specs.Reaction.{closing, ends, happens, opened, outside, reaction_of, reacts_to, with_line, without_block};
+ghost use Rattle.workbench.specs.Reaction.{closing, ends, happens, opened, reaction_of, reacts_to, with_line, without_block};
 
 use crate::open_block::OpenBlock;
 use crate::timelines::Timelines;
@@ -182,29 +182,15 @@ impl Bench {
             ≡ record { bench = self.new.bench; answer = answer.new; refused = refused }) }
     {
         if self.block.is_none() {
-            return self.obey_outside(&read_line(line, long), answer);
+            let command = read_line(line, long);
+            self.begin_block(&command);
+            return self.timelines.obey(&command, answer);
         }
         if !long && is_end(line) {
             return self.close(true, answer);
         }
         self.take(line, long)?;
         Ok(false)
-    }
-
-    /// Does what a line outside a block asks for, and writes the answer.
-    fn obey_outside(
-        &mut self,
-        line: &Result<Command, LineError>,
-        answer: &mut Text,
-    ) -> Result<bool, NoMemory>
-        requires proper { IfOk line.now IsProper }
-        requires no_block { self.old.bench.block ≡ None }
-        requires empty { answer.old ≡ [] }
-        ensures { IfOk result (λ refused. reaction_of (outside self.old.bench.timelines line.now)
-            ≡ record { bench = self.new.bench; answer = answer.new; refused = refused }) }
-    {
-        self.begin_block(line);
-        self.timelines.obey(line, answer)
     }
 
     /// Begins the block that a line opens, if it is a header.

@@ -13,19 +13,18 @@ ghost use Rattle.workbench.specs.Reported.{reported};
 ghost use Rattle.workbench.specs.declared.outcome.Outcome.TheVariants.{Accepted};
 ghost use Rattle.workbench.specs.EditErrors.{IsRefusedBy};
 
-use crate::loading::put_in;
 use crate::named_timeline::{NamedTimeline, no_row};
 use crate::outcome::{Outcome, Refusal};
 use crate::position::{Position, position_of, row_named};
 use crate::reported::{reported, reported_both};
-use retro_base::{MAX_NEXT, MAX_ROWS, NoMemory, Op, Row};
+use retro_base::{MAX_NEXT, MAX_ROWS, NoMemory, Op};
 use script_grammar::Spot;
 use timeline_undo::{EditError, Target, Turn, Turns, UndoError};
 
 impl NamedTimeline {
     ghost use Rattle.workbench.specs.Bench.{IsUnspent};
     ghost use Rattle.workbench.specs.Outcome.{is_refusal};
-    ghost use Rattle.workbench.specs.TimelineEffects.{TimelineEffect, changes, deletes, inserts, inserts_there, moves, refuses, shifts, shifts_there, undoes, redoes, where_one_fits};
+    ghost use Rattle.workbench.specs.TimelineEffects.{TimelineEffect, changes, deletes, inserts, inserts_there, refuses, shifts, shifts_there, undoes, redoes, where_one_fits};
 
     /// Puts a row in at a spot, where the edited rows replay whole. After a refusal and after `NoMemory`
     /// all is as before.
@@ -82,15 +81,9 @@ impl NamedTimeline {
         if let Some(refusal) = self.refusal_of_one_more() {
             return Ok(Outcome::refused(refusal));
         }
-        match self.session.put(position.place, position.time, op) {
-            Ok(put) => {
-                let row = Row {
-                    number: put.number,
-                    time: position.time,
-                    op,
-                };
-                let turn = put_in(position.place, row, put.change);
-                let number = put.number;
+        match self.session.insert(position.place, position.time, op) {
+            Ok(turn) => {
+                let number = turn.row.number;
                 Ok(self.tell(turn, Outcome::Inserted { number }))
             }
             Err(error) => refused_by(error),
@@ -115,17 +108,6 @@ impl NamedTimeline {
         }
     }
 
-    /// Puts the row with this number at another time, as a row that draws the next number, where the rows replay whole
-    /// after that. After a refusal all is as before.
-    pub(crate) fn move_row(&mut self, number: u32, time: u64) -> Result<Outcome, NoMemory>
-        requires unspent { IsUnspent self.old }
-        ensures ok { IfOk result (λ outcome. moves self.old.timeline number time ≡ record { timeline = self.new.timeline; outcome = outcome }) }
-        ensures unspent { OnOk result (IsUnspent self.new) }
-        ensures memory { OnErr result (is_refusal (moves self.old.timeline number time).outcome ≡ false) }
-    {
-        self.shift(number, Target::At { time })
-    }
-
     /// Gives the row with this number another operation, as a row that draws the next number, where the rows replay whole
     /// after that. After a refusal all is as before.
     pub(crate) fn change(&mut self, number: u32, op: Op) -> Result<Outcome, NoMemory>
@@ -140,8 +122,9 @@ impl NamedTimeline {
         self.shift(number, Target::Into { op })
     }
 
-    /// Replaces the row with this number.
-    fn shift(&mut self, number: u32, target: Target) -> Result<Outcome, NoMemory>
+    /// Replaces the row with this number, by its operation at another time or by another operation, as a row that draws the next number,
+    /// where the rows replay whole after that. After a refusal all is as before.
+    pub(crate) fn shift(&mut self, number: u32, target: Target) -> Result<Outcome, NoMemory>
         requires unspent { IsUnspent self.old }
         requires of_kind { IsTargetOf self.old.timeline.kind target }
         ensures ok { IfOk result (λ outcome. shifts self.old.timeline number target ≡ record { timeline = self.new.timeline; outcome = outcome }) }

@@ -6,13 +6,14 @@
 //!
 //! - `Bench::line` does what a line asks for and gives the lines that answer it, by `specs/Reaction.antt`; `Bench::end` does so at the
 //!   end of the input. `line_into` and `end_into` write these lines into a text of the caller, who may use it again for the next one.
-//! - `bench`: the type and its calls. `timelines`, `named_timeline`: all timelines, and one of them; `edits`, `questions`: what
-//!   can be done to one. `loading`: one that a block makes. `open_block`: the block that is read.
+//! - `bench`: the type and its calls. `timelines`, `named_timeline`: all timelines, and one of them; `commands`, `edits`,
+//!   `questions`: what can be done to one. `loading`: one that a block makes. `open_block`: the block that is read.
 //!   `position`: where a spot is. `outcome`, `reported`, `evidence_lines`: what a line is answered. `laws`: a timeline's own
 //!   lines are answered as they would be alone, and `pqf` for `pq` changes no answer.
 #![tactic(auto)]
 
 mod bench;
+mod commands;
 mod edits;
 mod evidence_lines;
 pub mod laws;

@@ -1,8 +1,6 @@
 //! A timeline that a block makes, with the evidence of its rows.
 
 ghost use Rattle.std.specs.Prelude.{◌≡◌, [], IfOk, OnOk};
-ghost use Rattle.retro_base.specs.Edits.{add};
-ghost use Rattle.timeline_undo.specs.Session.{edit_reported};
 ghost use Rattle.workbench.specs.Bench.{loaded_session};
 ghost use Rattle.workbench.specs.Reported.{loaded_evidence};
 ghost use Rattle.retro_base.specs.Timeline.{IsTimeline};
@@ -11,9 +9,9 @@ use crate::evidence_lines::EvidenceLines;
 use crate::named_timeline::NamedTimeline;
 use crate::reported::note;
 use engine::Engine;
-use retro_base::{Change, Kind, Name, NoMemory, Retro, Row, Rows};
+use retro_base::{Kind, Name, NoMemory, Retro, Rows};
 use std::alloc::Global;
-use timeline_undo::{Session, Turn};
+use timeline_undo::Session;
 
 /// A timeline that a block has made, and the evidence of its rows.
 #[derive(Drop)]
@@ -86,20 +84,7 @@ fn append_all<R: Retro + Drop>(
     for index in 0..rows.len() {
         let row = rows.row(index);
         let change = session.append(row)?;
-        note(evidence, name, kind, put_in(index, row, change))?;
+        note(evidence, name, kind, index, row, change)?;
     }
     Ok(())
-}
-
-/// The list edit that puts a row in.
-pub(crate) fn put_in(place: u32, row: Row, change: Change) -> Turn
-    ensures reported { edit_reported result ≡ add place row }
-    ensures change { result.change ≡ change }
-{
-    Turn {
-        added: true,
-        place,
-        row,
-        change,
-    }
 }

@@ -25,6 +25,7 @@ impl NamedTimeline {
 
     /// Writes the answer at a moment, and gives whether the question is refused. The timeline stays as it is, whatever the
     /// answer.
+    #[inline(never)]
     pub(crate) fn ask(
         &mut self,
         moment: Moment,
@@ -165,11 +166,12 @@ impl NamedTimeline {
     }
 
     /// What is saved of the timeline.
-    pub(crate) fn save(&self, alloc: Global) -> Result<Outcome, NoMemory>
+    pub(crate) fn save(&self) -> Result<Outcome, NoMemory>
         requires unspent { IsUnspent self.now }
-        ensures { IfOk result (λ outcome. outcome ≡ saves self.now.timeline) }
+        ensures ok { IfOk result (λ outcome. outcome ≡ saves self.now.timeline) }
+        ensures memory { OnErr result (is_refusal (saves self.now.timeline) ≡ false) }
     {
-        let rows = rows_of(alloc, self.session.timeline())?;
+        let rows = rows_of(self.alloc, self.session.timeline())?;
         Ok(Outcome::Saved {
             name: self.name,
             kind: self.session.kind(),

@@ -2,6 +2,7 @@
 
 ghost use Rattle.std.specs.Prelude.{◌≡◌, List, [], ◌∷◌, ◌++◌, IfOk, OnOk};
 ghost use Rattle.retro_base.specs.declared.row.Row.{Row};
+ghost use Rattle.retro_base.specs.Edits.{add};
 ghost use Rattle.retro_base.specs.MadeEdits.{IsMade};
 ghost use Rattle.timeline_undo.specs.Session.{AreMade, edit_reported, step_reported};
 ghost use Rattle.timeline_undo.specs.declared.turn.Turns.TheVariants.{Double};
@@ -11,7 +12,7 @@ use crate::evidence_lines::EvidenceLines;
 use crate::outcome::Outcome;
 use evidence::Evidence;
 use retro_base::laws::one_change_is_named;
-use retro_base::{Kind, Name, NoMemory};
+use retro_base::{Change, Kind, Name, NoMemory, Row};
 use std::alloc::Global;
 use timeline_undo::Turn;
 
@@ -56,19 +57,28 @@ pub(crate) fn reported_both(
     }
 }
 
-/// Notes the evidence of a list edit, where it is one of a priority queue.
+/// Notes the evidence of a row of a block, which was put in at this place, where it is one of a priority queue.
 pub(crate) fn note(
     evidence: &mut EvidenceLines,
     name: Name,
     kind: Kind,
-    turn: Turn,
+    place: u32,
+    row: Row,
+    change: Change,
 ) -> Result<(), NoMemory>
-    ensures { (rows : List Row) → IsMade kind rows (edit_reported turn) turn.change
-        → OnOk result (evidence.new ≡ evidence.old ++ noted name kind rows (edit_reported turn)) }
+    ensures { (rows : List Row) → IsMade kind rows (add place row) change
+        → OnOk result (evidence.new ≡ evidence.old ++ noted name kind rows (add place row)) }
 {
     one_change_is_named();
     match kind {
-        Kind::Pq => evidence.push(evidence_of(name, turn)),
+        Kind::Pq => evidence.push(Evidence {
+            name,
+            added: true,
+            place,
+            number: row.number,
+            op: row.op,
+            change,
+        }),
         _ => Ok(()),
     }
 }

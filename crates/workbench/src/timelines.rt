@@ -1,6 +1,6 @@
 //! The timelines of a bench, by their names.
 
-ghost use Rattle.std.specs.Prelude.{◌≡◌, ◌<◌, [], length, true, false, nat_le, position, slice_get, Ok, Some, None, IfOk, IfSome, OnErr, MatchOption};
+ghost use Rattle.std.specs.Prelude.{◌≡◌, ◌<◌, [], length, true, false, nat_le, position, slice_get, Some, None, IfOk, IfSome, OnErr, MatchOption};
 ghost use Rattle.std.specs.List.{list_any, remove, AllByRecursion};
 ghost use Rattle.retro_base.specs.Limits.{most_timelines};
 ghost use Rattle.script_grammar.specs.Command.{IsProper};
@@ -8,15 +8,14 @@ ghost use Rattle.timeline_file.specs.Block.{finished};
 ghost use Rattle.workbench.specs.Bench.{IsUnspent, has_timeline, is_kept_as, is_named, named, timeline_of};
 ghost use Rattle.workbench.specs.Outcome.{is_refusal};
 ghost use Rattle.workbench.specs.Reaction.{closes, loads, obeys, of_block, on_named, starts};
-ghost use Rattle.workbench.specs.AnsweredLine.{told};
-ghost use Rattle.workbench.specs.TimelineEffects.{changes, moves, answers, answers_fate, deletes, inserts, redoes, saves, undoes, unchanged};
+ghost use Rattle.workbench.specs.AnsweredLine.{performs, told};
 
 use crate::named_timeline::NamedTimeline;
 use crate::open_block::OpenBlock;
 use crate::outcome::{Outcome, Refusal, tell_refusal};
 use engine::Engine;
-use retro_base::{Kind, Name, NoMemory, Op, Text};
-use script_grammar::{Command, LineError, Moment, Query, Spot};
+use retro_base::{Kind, Name, NoMemory, Text};
+use script_grammar::{Command, LineError};
 use std::alloc::Global;
 use std::marker::Model;
 use timeline_undo::Session;
@@ -54,8 +53,8 @@ impl Timelines {
         }
     }
 
-    /// Does what a command asks for, or refuses a line that has none; writes the answer, and gives whether it is a refusal. After a
-    /// refusal all is as before.
+    /// Does what a command asks for, or refuses a line that has none: itself what is about no timeline, and else by the timeline of the
+    /// name. Writes the answer, and gives whether it is a refusal. After a refusal all is as before.
     pub(crate) fn obey(
         &mut self,
         line: &Result<Command, LineError>,
@@ -66,59 +65,63 @@ impl Timelines {
         ensures { IfOk result (λ refused. told (obeys self.old line.now) ≡ record { timelines = self.new; answer = answer.new; refused = refused }) }
     {
         match line {
-            Ok(command) => self.perform(command, answer),
+            Ok(command) => match command {
+                Command::Insert { name, .. }
+                | Command::Delete { name, .. }
+                | Command::Move { name, .. }
+                | Command::Change { name, .. }
+                | Command::Fate { name, .. }
+                | Command::Ask { name, .. }
+                | Command::Undo { name }
+                | Command::Redo { name }
+                | Command::Save { name } => self.perform_by(name, command, answer),
+                Command::New { name, kind, fused } => self.start_into(*name, *kind, *fused, answer),
+                Command::Mute { index } => tell_refusal(
+                    Refusal::NoFollower { number: *index },
+                    answer,
+                ),
+                Command::Nothing | Command::Header { .. } => Ok(false),
+            },
             Err(LineError::Long) => tell_refusal(Refusal::Long, answer),
             Err(LineError::Syntax) => tell_refusal(Refusal::Syntax, answer),
         }
     }
 
-    /// Does what a command asks for. Questions and the edits of one row are most lines, so they come first, and each stands in a
-    /// function that is not inlined: a function clears room for all that is inlined into it before it begins.
-    fn perform(&mut self, command: &Command, answer: &mut Text) -> Result<bool, NoMemory>
-        requires proper { IsProper command.now }
+    /// Has the timeline of this name do what a command asks of it.
+    fn perform_by(
+        &mut self,
+        name: &Name,
+        command: &Command,
+        answer: &mut Text,
+    ) -> Result<bool, NoMemory>
         requires empty { answer.old ≡ [] }
-        ensures { IfOk result (λ refused. told (obeys self.old (Ok command.now)) ≡ record { timelines = self.new; answer = answer.new; refused = refused }) }
+        ensures { IfOk result (λ refused. told (on_named name.now (λ timeline. performs timeline command.now) self.old)
+            ≡ record { timelines = self.new; answer = answer.new; refused = refused }) }
     {
-        match command {
-            Command::Ask {
-                name,
-                moment,
-                query,
-            } => self.ask(name, *moment, *query, answer),
-            Command::Insert { name, spot, op } => self.put_row(name, *spot, *op, answer),
-            Command::Delete { name, number } => self.take_row(name, *number, answer),
-            _ => self.perform_other(command, answer),
+        match self.index_of(name) {
+            Some(index) => {
+                let refused = self.timelines[index].perform(command, answer);
+                let_go_if_spent(&mut self.timelines, index);
+                refused
+            }
+            None => tell_refusal(Refusal::NoTimeline { name: *name }, answer),
         }
     }
 
-    /// Does what any command asks for, by its form. Those that `perform` does itself do not come here.
+    /// Starts a timeline, and writes the answer. It is not inlined: other lines need none of the room that it clears.
     #[inline(never)]
-    fn perform_other(&mut self, command: &Command, answer: &mut Text) -> Result<bool, NoMemory>
-        requires proper { IsProper command.now }
+    fn start_into(
+        &mut self,
+        name: Name,
+        kind: Kind,
+        fused: bool,
+        answer: &mut Text,
+    ) -> Result<bool, NoMemory>
+        requires kind { fused ≡ true → kind ≡ Kind.Pq }
         requires empty { answer.old ≡ [] }
-        ensures { IfOk result (λ refused. told (obeys self.old (Ok command.now)) ≡ record { timelines = self.new; answer = answer.new; refused = refused }) }
+        ensures { IfOk result (λ refused. told (starts self.old name kind) ≡ record { timelines = self.new; answer = answer.new; refused = refused }) }
     {
-        match command {
-            Command::Nothing => Ok(false),
-            Command::New { name, kind, fused } => self.start(*name, *kind, *fused)?.tell(answer),
-            Command::Insert { name, spot, op } => self.put_row(name, *spot, *op, answer),
-            Command::Delete { name, number } => self.take_row(name, *number, answer),
-            Command::Move { name, number, time } => self
-                .move_row(name, *number, *time)?
-                .tell(answer),
-            Command::Change { name, number, op } => self.change(name, *number, *op)?.tell(answer),
-            Command::Fate { name, number } => self.fate(name, *number).tell(answer),
-            Command::Ask {
-                name,
-                moment,
-                query,
-            } => self.ask(name, *moment, *query, answer),
-            Command::Undo { name } => self.undo(name)?.tell(answer),
-            Command::Redo { name } => self.redo(name)?.tell(answer),
-            Command::Save { name } => self.save(name)?.tell(answer),
-            Command::Mute { index } => tell_refusal(Refusal::NoFollower { number: *index }, answer),
-            Command::Header { .. } => Ok(false),
-        }
+        self.start(name, kind, fused)?.tell(answer)
     }
 
     /// Starts a timeline without rows, where the name is free and there is room for one more.
@@ -137,146 +140,6 @@ impl Timelines {
         let timeline = NamedTimeline::new(self.alloc, name, kind, fused)?;
         self.timelines.push(timeline)?;
         Ok(Outcome::Accepted)
-    }
-
-    /// Puts a row into the timeline of this name.
-    fn insert(&mut self, name: &Name, spot: Spot, op: Op) -> Result<Outcome, NoMemory>
-        ensures ok { IfOk result (λ outcome. on_named name.now (λ timeline. inserts timeline spot op) self.old ≡ record { timelines = self.new; outcome = outcome }) }
-        ensures err { OnErr result (self.new ≡ self.old) }
-        ensures memory { OnErr result (is_refusal (on_named name.now (λ timeline. inserts timeline spot op) self.old).outcome ≡ false) }
-    {
-        match self.index_of(name) {
-            Some(index) => self.timelines[index].insert(spot, op),
-            None => Ok(Outcome::refused(Refusal::NoTimeline { name: *name })),
-        }
-    }
-
-    /// Puts a row into the timeline of this name, and writes the answer.
-    #[inline(never)]
-    fn put_row(
-        &mut self,
-        name: &Name,
-        spot: Spot,
-        op: Op,
-        answer: &mut Text,
-    ) -> Result<bool, NoMemory>
-        requires empty { answer.old ≡ [] }
-        ensures { IfOk result (λ refused. told (on_named name.now (λ timeline. inserts timeline spot op) self.old)
-            ≡ record { timelines = self.new; answer = answer.new; refused = refused }) }
-    {
-        self.insert(name, spot, op)?.tell(answer)
-    }
-
-    /// Takes a row out of the timeline of this name.
-    fn delete(&mut self, name: &Name, number: u32) -> Result<Outcome, NoMemory>
-        ensures ok { IfOk result (λ outcome. on_named name.now (λ timeline. deletes timeline number) self.old ≡ record { timelines = self.new; outcome = outcome }) }
-        ensures err { OnErr result (self.new ≡ self.old) }
-        ensures memory { OnErr result (is_refusal (on_named name.now (λ timeline. deletes timeline number) self.old).outcome ≡ false) }
-    {
-        match self.index_of(name) {
-            Some(index) => self.timelines[index].delete(number),
-            None => Ok(Outcome::refused(Refusal::NoTimeline { name: *name })),
-        }
-    }
-
-    /// Takes a row out of the timeline of this name, and writes the answer.
-    #[inline(never)]
-    fn take_row(&mut self, name: &Name, number: u32, answer: &mut Text) -> Result<bool, NoMemory>
-        requires empty { answer.old ≡ [] }
-        ensures { IfOk result (λ refused. told (on_named name.now (λ timeline. deletes timeline number) self.old)
-            ≡ record { timelines = self.new; answer = answer.new; refused = refused }) }
-    {
-        self.delete(name, number)?.tell(answer)
-    }
-
-    /// Puts a row of the timeline of this name at another time.
-    fn move_row(&mut self, name: &Name, number: u32, time: u64) -> Result<Outcome, NoMemory>
-        ensures ok { IfOk result (λ outcome. on_named name.now (λ timeline. moves timeline number time) self.old ≡ record { timelines = self.new; outcome = outcome }) }
-        ensures memory { OnErr result (is_refusal (on_named name.now (λ timeline. moves timeline number time) self.old).outcome ≡ false) }
-    {
-        match self.index_of(name) {
-            Some(index) => {
-                let outcome = self.timelines[index].move_row(number, time);
-                let_go_if_spent(&mut self.timelines, index);
-                outcome
-            }
-            None => Ok(Outcome::refused(Refusal::NoTimeline { name: *name })),
-        }
-    }
-
-    /// Gives a row of the timeline of this name another operation.
-    fn change(&mut self, name: &Name, number: u32, op: Op) -> Result<Outcome, NoMemory>
-        ensures ok { IfOk result (λ outcome. on_named name.now (λ timeline. changes timeline number op) self.old ≡ record { timelines = self.new; outcome = outcome }) }
-        ensures memory { OnErr result (is_refusal (on_named name.now (λ timeline. changes timeline number op) self.old).outcome ≡ false) }
-    {
-        match self.index_of(name) {
-            Some(index) => {
-                let outcome = self.timelines[index].change(number, op);
-                let_go_if_spent(&mut self.timelines, index);
-                outcome
-            }
-            None => Ok(Outcome::refused(Refusal::NoTimeline { name: *name })),
-        }
-    }
-
-    /// Undoes the newest step of the timeline of this name.
-    fn undo(&mut self, name: &Name) -> Result<Outcome, NoMemory>
-        ensures ok { IfOk result (λ outcome. on_named name.now undoes self.old ≡ record { timelines = self.new; outcome = outcome }) }
-        ensures memory { OnErr result (is_refusal (on_named name.now undoes self.old).outcome ≡ false) }
-    {
-        match self.index_of(name) {
-            Some(index) => {
-                let outcome = self.timelines[index].undo();
-                let_go_if_spent(&mut self.timelines, index);
-                outcome
-            }
-            None => Ok(Outcome::refused(Refusal::NoTimeline { name: *name })),
-        }
-    }
-
-    /// Makes the step of the timeline of this name again that was undone last.
-    fn redo(&mut self, name: &Name) -> Result<Outcome, NoMemory>
-        ensures ok { IfOk result (λ outcome. on_named name.now redoes self.old ≡ record { timelines = self.new; outcome = outcome }) }
-        ensures memory { OnErr result (is_refusal (on_named name.now redoes self.old).outcome ≡ false) }
-    {
-        match self.index_of(name) {
-            Some(index) => {
-                let outcome = self.timelines[index].redo();
-                let_go_if_spent(&mut self.timelines, index);
-                outcome
-            }
-            None => Ok(Outcome::refused(Refusal::NoTimeline { name: *name })),
-        }
-    }
-
-    /// Asks the timeline of this name, and writes the answer. Nothing changes.
-    #[inline(never)]
-    fn ask(
-        &mut self,
-        name: &Name,
-        moment: Moment,
-        query: Query,
-        answer: &mut Text,
-    ) -> Result<bool, NoMemory>
-        requires empty { answer.old ≡ [] }
-        ensures told { IfOk result (λ refused. told (on_named name.now (λ timeline. unchanged timeline (answers timeline moment query)) self.old)
-            ≡ record { timelines = self.new; answer = answer.new; refused = refused }) }
-        ensures err { OnErr result (self.new ≡ self.old) }
-    {
-        match self.index_of(name) {
-            Some(index) => self.timelines[index].ask(moment, query, answer),
-            None => tell_refusal(Refusal::NoTimeline { name: *name }, answer),
-        }
-    }
-
-    /// What became of what a row of the timeline of this name put in. Nothing changes.
-    fn fate(&self, name: &Name, number: u32) -> Outcome
-        ensures { on_named name.now (λ timeline. unchanged timeline (answers_fate timeline number)) self.now ≡ record { timelines = self.now; outcome = result } }
-    {
-        match self.index_of(name) {
-            Some(index) => self.timelines[index].fate(number),
-            None => Outcome::refused(Refusal::NoTimeline { name: *name }),
-        }
     }
 
     /// Closes a block: its rows become a timeline, where its name is free, there is room for one more, and nothing is
@@ -309,19 +172,6 @@ impl Timelines {
                 })
             }
             Err(error) => Ok(Outcome::refused(Refusal::of_block(error))),
-        }
-    }
-
-    /// Asks for the text of the timeline of this name. Nothing changes.
-    fn save(&mut self, name: &Name) -> Result<Outcome, NoMemory>
-        ensures ok { IfOk result (λ outcome. on_named name.now (λ timeline. unchanged timeline (saves timeline)) self.old ≡ record { timelines = self.new; outcome = outcome }) }
-        ensures err { OnErr result (self.new ≡ self.old) }
-        ensures memory { OnErr result (is_refusal (on_named name.now (λ timeline. unchanged timeline (saves timeline)) self.old).outcome ≡ false) }
-    {
-        let alloc = self.alloc;
-        match self.index_of(name) {
-            Some(index) => self.timelines[index].save(alloc),
-            None => Ok(Outcome::refused(Refusal::NoTimeline { name: *name })),
         }
     }
 

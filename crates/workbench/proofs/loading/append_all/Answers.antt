@@ -27,13 +27,12 @@ loop-index-preserved g c =
     let index = c.loop-index.index in
     let row = c.row-row.result in
     let kept = c.loop-index.invariant.session in
-    let made = put_in_after c.kind-kind.result _ rows _ index row _ _ c.put_in.result.change c.row-row.ensures
-    (ap (λ (s : SessionState). s.kind) kept ∙ sym c.kind-kind.ensures) (ap (λ (s : SessionState). s.rows) kept)
-    c.put_in.ensures.reported c.put_in.ensures.change c.in_ok-change.ensures.made in
+    let made = put_in_after c.kind-kind.result _ rows _ index row _ c.row-row.ensures
+    (ap (λ (s : SessionState). s.kind) kept ∙ sym c.kind-kind.ensures) (ap (λ (s : SessionState). s.rows) kept) c.in_ok-change.ensures.made in
     record {
       session = rw (c.in_ok-change.ensures.session, kept) (rw (take_more rows index row c.row-row.ensures) refl);
       timeline = rw (take_more rows index row c.row-row.ensures)
           (timeline_grows session.kind rows session.next index row c.requires.timeline c.row-row.ensures c.loop-index.invariant.timeline);
       evidence = evidence_grows c.args.name session.kind rows index row _ _ c.row-row.ensures c.loop-index.invariant.evidence
-          (rw (c.kind-kind.ensures, c.put_in.ensures.reported) at (c.in_ok-note.ensures (take index rows) made));
+          (rw c.kind-kind.ensures at (c.in_ok-note.ensures (take index rows) made));
     }

@@ -9,11 +9,11 @@ take_from_both-requires-clause-replayable g c =
 
 pub invariant_of-self-2 : goal.invariant_of-self-2
 invariant_of-self-2 g c =
-    rw (c.in_ok-row.ensures.kind, c.in_ok-row.ensures.rows, c.note.ensures.undo, c.note.ensures.redo)
+    rw (c.in_ok-turn.ensures.kind, c.in_ok-turn.ensures.rows, c.note.ensures.undo, c.note.ensures.redo)
     (session_noted _ _ c.self.inside.timeline c.self.inside.next c.self.inside.undo c.self.inside.redo _ c.self.invariant.undo_room c.self.invariant.redo_room
-    (c.in_ok-row.ensures.same ∙ c.in_ok-row.ensures.rows) c.self.invariant.timeline (
+    (c.in_ok-turn.ensures.same ∙ c.in_ok-turn.ensures.rows) c.self.invariant.timeline (
       record {
-        within = c.in_ok-row.ensures.row;
+        within = c.in_ok-turn.ensures.row;
         timeline = delete_leads _ _ _ _ c.args.place _ c.self.invariant.same c.self.invariant.timeline c.failure_after_remove.ensures.first c.in_default.is;
       },
       tt,
@@ -22,5 +22,5 @@ invariant_of-self-2 g c =
 
 pub returns-clause-session : goal.returns-clause-session
 returns-clause-session g c =
-    rw (← c.self.view_is, c.in_ok-row.ensures.kind, c.in_ok-row.ensures.rows, c.note.ensures.undo, c.note.ensures.redo, c.self.invariant.undo_room)
+    rw (← c.self.view_is, c.in_ok-turn.ensures.kind, c.in_ok-turn.ensures.rows, c.note.ensures.undo, c.note.ensures.redo, c.self.invariant.undo_room)
     (rw (steps-recorded c.self.inside.undo.items _) refl)

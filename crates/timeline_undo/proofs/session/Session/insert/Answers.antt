@@ -2,7 +2,7 @@ use Rattle.std.proofs.Common.{◌+◌, refl, ◌∙◌}
 use Rattle.timeline_undo.proofs.InTurn.{in_turn_later, timeline_later}
 use Rattle.timeline_undo.proofs.Rings.{steps-recorded}
 use Rattle.timeline_undo.proofs.Sessions.{insert_leads, session_noted}
-use Rattle.timeline_undo.proofs.session.Session.put.Goals as goal
+use Rattle.timeline_undo.proofs.session.Session.insert.Goals as goal
 
 pub put_in_both-requires-clause-in_order : goal.put_in_both-requires-clause-in_order
 put_in_both-requires-clause-in_order g c =
@@ -20,9 +20,9 @@ pub invariant_of-self-2 : goal.invariant_of-self-2
 invariant_of-self-2 g c =
     let room = rw (← c.self.view_is) at c.requires.room in
     let stands = rw (← c.self.view_is) at c.requires.stands in
-    rw (c.in_ok-change.ensures.kind, c.in_ok-change.ensures.rows, c.note.ensures.undo, c.note.ensures.redo)
+    rw (c.in_ok-turn.ensures.kind, c.in_ok-turn.ensures.rows, c.note.ensures.undo, c.note.ensures.redo)
     (session_noted _ _ c.self.inside.timeline (c.self.inside.next + 1) c.self.inside.undo c.self.inside.redo _ c.self.invariant.undo_room c.self.invariant.redo_room
-    (c.in_ok-change.ensures.same ∙ c.in_ok-change.ensures.rows)
+    (c.in_ok-turn.ensures.same ∙ c.in_ok-turn.ensures.rows)
     (timeline_later _ _ _ room.1 c.self.invariant.timeline) (
       record {
         within = stands.0;
@@ -36,5 +36,5 @@ invariant_of-self-2 g c =
 
 pub returns-clause-session : goal.returns-clause-session
 returns-clause-session g c =
-    rw (← c.self.view_is, c.in_ok-change.ensures.kind, c.in_ok-change.ensures.rows, c.note.ensures.undo, c.note.ensures.redo, c.self.invariant.undo_room)
+    rw (← c.self.view_is, c.in_ok-turn.ensures.kind, c.in_ok-turn.ensures.rows, c.note.ensures.undo, c.note.ensures.redo, c.self.invariant.undo_room)
     (rw (steps-recorded c.self.inside.undo.items _) refl)

@@ -1,0 +1,20 @@
+use Rattle.std.proofs.Common.{refl}
+use Rattle.workbench.specs.TimelineEffects.{answers, unchanged}
+use Rattle.workbench.proofs.AnsweredLine.{other_command, told_by_one}
+use Rattle.workbench.proofs.named_timeline.NamedTimeline.perform.Goals as goal
+
+pub returns-in-Ask-clause-told : goal.returns-in-Ask-clause-told
+returns-in-Ask-clause-told c =
+    rw (c.in-Ask.is, c.ask.ensures.unchanged)
+    (told_by_one c.ask.result (unchanged c.args.self.now.timeline (answers c.args.self.now.timeline c.in-Ask.moment c.in-Ask.query)) c.args.self.now.timeline _ c.args.answer.now
+    c.ask.new.answer refl c.ask.ensures.answer c.ask.ensures.refused)
+
+pub returns-in-Insert-clause-told : goal.returns-in-Insert-clause-told
+returns-in-Insert-clause-told c = rw c.in-Insert.is c.put_row.ensures.told
+
+pub returns-in-Delete-clause-told : goal.returns-in-Delete-clause-told
+returns-in-Delete-clause-told c = rw c.in-Delete.is c.take_row.ensures.told
+
+pub returns-in_default-clause-told : goal.returns-in_default-clause-told
+returns-in_default-clause-told c =
+    rw (other_command c.args.self.now.timeline c.args.command.now c.in_default.not-Ask c.in_default.not-Insert c.in_default.not-Delete) c.perform_other.ensures.told
