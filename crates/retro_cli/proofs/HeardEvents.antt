@@ -1,12 +1,11 @@
 -- Who is left after lines has heard the events among all answers to them.
-use Rattle.std.proofs.Common.{◌≡◌, ℕ, zero, suc, Bool, List, [], ◌∷◌, ◌++◌, flat_map, refl, sym, ap, ◌∙◌, append-nil, append_assoc, Option, Some, None}
-use Rattle.std.proofs.Common.{Result, Ok, Err}
+use Rattle.std.proofs.Common.{◌≡◌, ℕ, zero, suc, Bool, List, [], ◌∷◌, ◌++◌, refl, sym, ap, ◌∙◌, append-nil, append_assoc, Option, Some, None}
+use Rattle.std.proofs.Common.{Result}
 use Rattle.std.specs.List.{cons_option}
 use Rattle.std.proofs.Math.Path.{fun_ext}
 use Rattle.evidence.specs.declared.evidence.Evidence.{Evidence}
 use Rattle.retro_base.specs.LineLength.{is_long}
 use Rattle.script_grammar.specs.declared.command.Command.{Command}
-use Rattle.script_grammar.specs.declared.command.Command.TheVariants.{Nothing, New, Insert, Delete, Move, Change, Fate, Ask, Undo, Redo, Save, Mute, Header}
 use Rattle.script_grammar.specs.declared.command.LineError.{LineError}
 use Rattle.followers.specs.Followers.{Reporting}
 use Rattle.followers.specs.Mirrors.{held, mirror_text}
@@ -20,10 +19,11 @@ use Rattle.retro_cli.specs.Audience.{Audience, after_events, audience_after, fol
 use Rattle.retro_cli.specs.Events.{events, events_among, events_spelled}
 use Rattle.retro_cli.specs.HeardEvents.{HasHeard, MirrorsReportThePresent, WhoIsLeftHasHeardAll}
 use Rattle.retro_cli.specs.Mirrored.{ChangesAloneHoldThePresent}
+use Rattle.retro_cli.proofs.Muted.{spells_mute}
 use Rattle.retro_cli.proofs.accepted.Passing.{begins_other}
 use Rattle.retro_cli.proofs.accepted.Printable.{refusal_printable}
-use Rattle.retro_cli.proofs.accepted.ReadLines.{line_alone}
-use Rattle.retro_cli.proofs.mirrored.ToldEdits.{no_event}
+use Rattle.retro_cli.proofs.accepted.ReadLines.{line_alone, no_event}
+use Rattle.retro_cli.proofs.accepted.Script.{events_from}
 
 -- the bench refuses a line that mutes, and there is no event in that
 refusal_is_silent : (number : ℕ) → events_among (reply_text (Refused (refusals.NoFollower number))) ≡ []
@@ -34,20 +34,7 @@ refusal_is_silent number =
 
 outside_is_silent : (timelines : List NamedTimeline) (line : Result Command LineError) (number : ℕ) → number_muted line ≡ Some number
     → events_among (reply_text (outside timelines line).outcome) ≡ []
-outside_is_silent timelines (Err error) number is = absurd (cc)
-outside_is_silent timelines (Ok Nothing) number is = absurd (cc)
-outside_is_silent timelines (Ok (New name kind fused)) number is = absurd (cc)
-outside_is_silent timelines (Ok (Insert name spot op)) number is = absurd (cc)
-outside_is_silent timelines (Ok (Delete name row)) number is = absurd (cc)
-outside_is_silent timelines (Ok (Move name row time)) number is = absurd (cc)
-outside_is_silent timelines (Ok (Change name row op)) number is = absurd (cc)
-outside_is_silent timelines (Ok (Fate name row)) number is = absurd (cc)
-outside_is_silent timelines (Ok (Ask name moment query)) number is = absurd (cc)
-outside_is_silent timelines (Ok (Undo name)) number is = absurd (cc)
-outside_is_silent timelines (Ok (Redo name)) number is = absurd (cc)
-outside_is_silent timelines (Ok (Save name)) number is = absurd (cc)
-outside_is_silent timelines (Ok (Mute muted)) number is = refusal_is_silent muted
-outside_is_silent timelines (Ok (Header name kind next rows)) number is = absurd (cc)
+outside_is_silent timelines line number is = rw (spells_mute line number is) (refusal_is_silent number)
 
 is_silent : (timelines : List NamedTimeline) (block : Option OpenBlock) (bytes : List ℕ) (long : Bool) (number : ℕ) → mutes block bytes long ≡ Some number
     → events_among (reply_text (happens timelines block bytes long).outcome) ≡ []
@@ -95,9 +82,6 @@ heard_then first more audience number between report earlier since =
       there = earlier.there;
       since = since ∙ ap (after_events more) earlier.since ∙ fun_ext (λ later. ap earlier.first (sym (append_assoc first more later)));
     }
-
-abbrev events_from : Bench → List (List ℕ) → List Evidence
-events_from bench script = flat_map (λ (reaction : Reaction). events_among reaction.answer) (reactions bench script)
 
 heard_from : (script : List (List ℕ)) (bench : Bench) (audience : Audience) (number : ℕ) (report : Reporting)
     → follower_at (audience_after bench audience script) number ≡ Some report → HasHeard (events_from bench script) audience number report

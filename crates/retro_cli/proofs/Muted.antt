@@ -12,23 +12,27 @@ use Rattle.retro_cli.specs.declared.stop.Stop.{Stop}
 use Rattle.retro_cli.specs.Audience.{Audience, Turn, answers, follower_at, follows_to, hears, mutes, number_muted, reports, without}
 use Rattle.retro_cli.specs.Events.{events_among, report_line}
 
+-- a line that mutes a follower spells that
+pub spells_mute : (line : Result Command LineError) (number : ℕ) → number_muted line ≡ Some number → line ≡ Ok (Mute number)
+spells_mute (Err error) number is = absurd (cc)
+spells_mute (Ok Nothing) number is = absurd (cc)
+spells_mute (Ok (New name kind fused)) number is = absurd (cc)
+spells_mute (Ok (Insert name spot op)) number is = absurd (cc)
+spells_mute (Ok (Delete name row)) number is = absurd (cc)
+spells_mute (Ok (Move name row time)) number is = absurd (cc)
+spells_mute (Ok (Change name row op)) number is = absurd (cc)
+spells_mute (Ok (Fate name row)) number is = absurd (cc)
+spells_mute (Ok (Ask name moment query)) number is = absurd (cc)
+spells_mute (Ok (Undo name)) number is = absurd (cc)
+spells_mute (Ok (Redo name)) number is = absurd (cc)
+spells_mute (Ok (Save name)) number is = absurd (cc)
+spells_mute (Ok (Mute muted)) number is = cc
+spells_mute (Ok (Header name kind next rows)) number is = absurd (cc)
+
 -- the bench would refuse a line that mutes, and stay as it is
 outside_stays : (timelines : List NamedTimeline) (line : Result Command LineError) (number : ℕ) → number_muted line ≡ Some number
     → (outside timelines line).bench ≡ record { timelines = timelines; block = None }
-outside_stays timelines (Err error) number is = absurd (cc)
-outside_stays timelines (Ok Nothing) number is = absurd (cc)
-outside_stays timelines (Ok (New name kind fused)) number is = absurd (cc)
-outside_stays timelines (Ok (Insert name spot op)) number is = absurd (cc)
-outside_stays timelines (Ok (Delete name row)) number is = absurd (cc)
-outside_stays timelines (Ok (Move name row time)) number is = absurd (cc)
-outside_stays timelines (Ok (Change name row op)) number is = absurd (cc)
-outside_stays timelines (Ok (Fate name row)) number is = absurd (cc)
-outside_stays timelines (Ok (Ask name moment query)) number is = absurd (cc)
-outside_stays timelines (Ok (Undo name)) number is = absurd (cc)
-outside_stays timelines (Ok (Redo name)) number is = absurd (cc)
-outside_stays timelines (Ok (Save name)) number is = absurd (cc)
-outside_stays timelines (Ok (Mute muted)) number is = refl
-outside_stays timelines (Ok (Header name kind next rows)) number is = absurd (cc)
+outside_stays timelines line number is = rw (spells_mute line number is) refl
 
 stays : (timelines : List NamedTimeline) (block : Option OpenBlock) (bytes : List ℕ) (long : Bool) (number : ℕ) → mutes block bytes long ≡ Some number
     → (happens timelines block bytes long).bench ≡ record { timelines = timelines; block = block }

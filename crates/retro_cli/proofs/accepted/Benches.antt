@@ -6,7 +6,6 @@ use Rattle.retro_base.specs.declared.kind.Kind.TheVariants.{Queue, Stack, Deque,
 use Rattle.retro_base.specs.declared.row.Row.{Row}
 use Rattle.retro_base.specs.Limits.{most_timelines}
 use Rattle.retro_base.specs.Name.{is_name}
-use Rattle.evidence.specs.Laws.{LinesAreShort, PrintedReadsBack}
 use Rattle.evidence_check.specs.Judgement.{Judge, Reported}
 use Rattle.evidence_check.specs.Laws.{EditsAreSpelled, EditsAreReported}
 use Rattle.script_grammar.specs.declared.command.Command.{Command}
@@ -44,7 +43,7 @@ names_none faults.Next = tt
 names_none faults.Rows = tt
 
 -- the evidence of the rows of a block
-module _ (truth : EditsAreReported) (spells : EditsAreSpelled) (back : PrintedReadsBack) (short : LinesAreShort) (shifts_made : ShiftsCanBeMade) where
+module _ (truth : EditsAreReported) (spells : EditsAreSpelled) (shifts_made : ShiftsCanBeMade) where
   tells_nothing : (name : List ℕ) (names : List (List ℕ)) (judge : Judge) (by : List ℕ → List Row) → Agrees names by judge.reported → by name ≡ [] → HasReported names by name [] judge []
   tells_nothing name names judge by agrees own = record { later = judge; reads = reads_nothing judge; agrees = agrees_as names by (put name [] by) judge.reported (put_same name by [] own) agrees }
 
@@ -56,7 +55,7 @@ module _ (truth : EditsAreReported) (spells : EditsAreSpelled) (back : PrintedRe
   tells_loaded name Deque next rows names few named listed sound judge by agrees own = tells_nothing name names judge by agrees own
   tells_loaded name Dict next rows names few named listed sound judge by agrees own = tells_nothing name names judge by agrees own
   tells_loaded name Pq next rows names few named listed sound judge by agrees own =
-      tells_step truth spells back short names few name named listed next (appends_from 0 rows) judge by [] rows agrees own (appends_made Pq next [] rows sound)
+      tells_step truth spells names few name named listed next (appends_from 0 rows) judge by [] rows agrees own (appends_made Pq next [] rows sound)
 
   loads_kept : (timelines : List NamedTimeline) (unclosed : OpenBlock) (ended : Bool) (judge : Judge) → AreToldOf timelines judge.reported → is_name unclosed.name ≡ true → IsGoodBlock unclosed.block
       → has_timeline unclosed.name timelines ≡ false → length timelines < most_timelines
@@ -98,21 +97,21 @@ module _ (truth : EditsAreReported) (spells : EditsAreSpelled) (back : PrintedRe
   obeys_kept timelines judge (Ok Nothing) kept is = left_kept timelines judge Silent kept silent_passes
   obeys_kept timelines judge (Ok (New name kind fused)) kept is = starts_kept timelines name kind judge kept is
   obeys_kept timelines judge (Ok (Insert name spot op)) kept is =
-      named_kept name (λ timeline. inserts timeline spot op) is.0 (λ timeline good. insert_stays truth spells back short shifts_made timeline good spot op is.1) timelines judge kept
+      named_kept name (λ timeline. inserts timeline spot op) is.0 (λ timeline good. insert_stays truth spells shifts_made timeline good spot op is.1) timelines judge kept
   obeys_kept timelines judge (Ok (Delete name number)) kept is =
-      named_kept name (λ timeline. deletes timeline number) is (λ timeline good. delete_stays truth spells back short shifts_made timeline good number) timelines judge kept
+      named_kept name (λ timeline. deletes timeline number) is (λ timeline good. delete_stays truth spells shifts_made timeline good number) timelines judge kept
   obeys_kept timelines judge (Ok (Move name number time)) kept is =
-      named_kept name (λ timeline. moves timeline number time) is (λ timeline good. move_stays truth spells back short shifts_made timeline good number time) timelines judge kept
+      named_kept name (λ timeline. moves timeline number time) is (λ timeline good. move_stays truth spells shifts_made timeline good number time) timelines judge kept
   obeys_kept timelines judge (Ok (Change name number op)) kept is =
-      named_kept name (λ timeline. changes timeline number op) is.0 (λ timeline good. change_stays truth spells back short shifts_made timeline good number op is.1) timelines judge kept
+      named_kept name (λ timeline. changes timeline number op) is.0 (λ timeline good. change_stays truth spells shifts_made timeline good number op is.1) timelines judge kept
   obeys_kept timelines judge (Ok (Fate name number)) kept is =
-      named_kept name (λ timeline. unchanged timeline (answers_fate timeline number)) is (λ timeline good. fate_stays truth spells back short shifts_made timeline good number) timelines judge kept
+      named_kept name (λ timeline. unchanged timeline (answers_fate timeline number)) is (λ timeline good. fate_stays truth spells shifts_made timeline good number) timelines judge kept
   obeys_kept timelines judge (Ok (Ask name moment query)) kept is =
-      named_kept name (λ timeline. unchanged timeline (answers timeline moment query)) is (λ timeline good. answer_stays truth spells back short shifts_made timeline good moment query) timelines judge kept
-  obeys_kept timelines judge (Ok (Undo name)) kept is = named_kept name undoes is (λ timeline good. undo_stays truth spells back short shifts_made timeline good) timelines judge kept
-  obeys_kept timelines judge (Ok (Redo name)) kept is = named_kept name redoes is (λ timeline good. redo_stays truth spells back short shifts_made timeline good) timelines judge kept
+      named_kept name (λ timeline. unchanged timeline (answers timeline moment query)) is (λ timeline good. answer_stays truth spells shifts_made timeline good moment query) timelines judge kept
+  obeys_kept timelines judge (Ok (Undo name)) kept is = named_kept name undoes is (λ timeline good. undo_stays truth spells shifts_made timeline good) timelines judge kept
+  obeys_kept timelines judge (Ok (Redo name)) kept is = named_kept name redoes is (λ timeline good. redo_stays truth spells shifts_made timeline good) timelines judge kept
   obeys_kept timelines judge (Ok (Save name)) kept is =
-      named_kept name (λ timeline. unchanged timeline (saves timeline)) is (λ timeline good. save_stays truth spells back short shifts_made timeline good) timelines judge kept
+      named_kept name (λ timeline. unchanged timeline (saves timeline)) is (λ timeline good. save_stays truth spells shifts_made timeline good) timelines judge kept
   obeys_kept timelines judge (Ok (Mute number)) kept is =
       left_kept timelines judge (Refused (refusals.NoFollower number)) kept (refusal_passes (refusals.NoFollower number) tt)
   obeys_kept timelines judge (Ok (Header name kind next rows)) kept is = left_kept timelines judge Silent kept silent_passes

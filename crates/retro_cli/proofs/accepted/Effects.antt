@@ -17,7 +17,6 @@ use Rattle.retro_base.specs.Places.{place_of_row}
 use Rattle.retro_base.specs.Replay.{IsValid, failure}
 use Rattle.retro_base.specs.ReplayableLaws.{replayable_with, replayable_without}
 use Rattle.retro_base.specs.Timeline.{IsFresh}
-use Rattle.evidence.specs.Laws.{LinesAreShort, PrintedReadsBack}
 use Rattle.evidence_check.specs.Judgement.{Judge}
 use Rattle.evidence_check.specs.Laws.{EditsAreSpelled, EditsAreReported}
 use Rattle.script_grammar.specs.SpellingLaws.{HasValues}
@@ -39,7 +38,7 @@ use Rattle.workbench.specs.Bench.{NamedTimeline}
 use Rattle.workbench.specs.Outcome.{reply_text}
 use Rattle.workbench.specs.TimelineEffects.{TimelineEffect, accepted_or_refused, after_step, makes, shifts_there, shifts_by, shifts, moves, changes}
 use Rattle.workbench.specs.TimelineEffects.{answers, answers_fate, cut_of, deletes, deletes_by, edits, inserts, inserts_at, inserts_there, new_row}
-use Rattle.workbench.specs.TimelineEffects.{position_of, redoes, redoes_step, refusal_at, refuses, row_named, saves, unchanged, undoes, undoes_step}
+use Rattle.workbench.specs.TimelineEffects.{position_of, redoes, redoes_step, refusal_at, refuses, row_named, saves, unchanged, undoes, undoes_step, where_one_fits}
 use Rattle.workbench.specs.Reported.{evidence_of_step, reported}
 use Rattle.retro_cli.proofs.accepted.Leads.{Leads, leads_last, leads_later, leads_more, leads_so}
 use Rattle.retro_cli.proofs.accepted.Made.{IsRanged, IsSound, Makes, MakesStep, TakesBack, leads_to, sound_after, sound_later, step_back, step_later}
@@ -103,7 +102,7 @@ refused_stays : (timeline : NamedTimeline) (refusal : Refusal) → IsGood timeli
 refused_stays timeline refusal good named = stays_as_it_was timeline (Refused refusal) good (refusal_passes refusal named)
 
 -- A step that is made.
-module _ (truth : EditsAreReported) (spells : EditsAreSpelled) (back : PrintedReadsBack) (short : LinesAreShort) (shifts_made : ShiftsCanBeMade) where
+module _ (truth : EditsAreReported) (spells : EditsAreSpelled) (shifts_made : ShiftsCanBeMade) where
   module _ (names : List (List ℕ)) (few : length names ≤ most_timelines) (name : List ℕ) (named : is_name name ≡ true) (listed : is_listed name names ≡ true) where
     tells_other : (judge : Judge) (by : List ℕ → List Row) (plain : Outcome) → IsPassedOver plain → Agrees names by judge.reported → by name ≡ [] → HasReported names by name [] judge (reply_text plain)
     tells_other judge by plain passes agrees own = record {
@@ -121,7 +120,7 @@ module _ (truth : EditsAreReported) (spells : EditsAreSpelled) (back : PrintedRe
       agrees = agrees_as names by (put name after by) judge.reported (put_same name by after (own ∙ made)) agrees;
     }
     tells_pq next (edit ∷ step) judge by rows after plain passes agrees own made =
-        tells_step truth spells back short names few name named listed next (edit ∷ step) judge by rows after agrees own made
+        tells_step truth spells names few name named listed next (edit ∷ step) judge by rows after agrees own made
 
     pub tells_made : (kind : Kind) (next : ℕ) (step : Step) (judge : Judge) (by : List ℕ → List Row) (rows after : List Row) (plain : Outcome) → IsPassedOver plain → Agrees names by judge.reported
         → by name ≡ reported_rows kind rows → MakesStep kind next rows step after → HasReported names by name (reported_rows kind after) judge (reply_text (reported name kind rows step plain))
@@ -193,22 +192,25 @@ module _ (truth : EditsAreReported) (spells : EditsAreSpelled) (back : PrintedRe
           };
         }
 
+    -- where a row and a number more fit
+    one_fits : (effect : TimelineEffect) → (length timeline.rows < most_rows → timeline.next < next_limit → StaysGood timeline effect) → StaysGood timeline (where_one_fits timeline effect)
+    one_fits effect fits =
+        elim (nat_le most_rows (length timeline.rows)) as (λ b. nat_le most_rows (length timeline.rows) ≡ b
+        → StaysGood timeline (cond b (refuses timeline refusals.Full) (cond (nat_le next_limit timeline.next) (refuses timeline refusals.Numbers) effect))) [
+          | true ↦ λ full. refused_stays timeline refusals.Full good tt
+          | false ↦ λ room.
+              elim (nat_le next_limit timeline.next) as (λ b. nat_le next_limit timeline.next ≡ b → StaysGood timeline (cond b (refuses timeline refusals.Numbers) effect)) [
+                | true ↦ λ out. refused_stays timeline refusals.Numbers good tt
+                | false ↦ λ below. fits (leb-false most_rows (length timeline.rows) room) (leb-false next_limit timeline.next below)
+              ] refl
+        ] refl
+
     insert_there : (position : Position) (op : Op) → kind_of op ≡ timeline.kind → HasValues op → position.place ≤ length timeline.rows → StaysGood timeline (inserts_there timeline op position)
     insert_there position op kind values within =
         let edit : Edit = add position.place (new_row timeline position op) in
-        let made : TimelineEffect = edits timeline edit (timeline.next + 1) (Inserted timeline.next) in
-        elim (nat_le most_rows (length timeline.rows)) as (λ b. nat_le most_rows (length timeline.rows) ≡ b
-        → StaysGood timeline (cond b (refuses timeline refusals.Full) (cond (nat_le next_limit timeline.next) (refuses timeline refusals.Numbers) made))) [
-          | true ↦ λ full. refused_stays timeline refusals.Full good tt
-          | false ↦ λ room.
-              elim (nat_le next_limit timeline.next) as (λ b. nat_le next_limit timeline.next ≡ b → StaysGood timeline (cond b (refuses timeline refusals.Numbers) made)) [
-                | true ↦ λ out. refused_stays timeline refusals.Numbers good tt
-                | false ↦ λ below.
-                    let lower : timeline.next < next_limit = leb-false next_limit timeline.next below in
-                    edit_stays edit (timeline.next + 1) (Inserted timeline.next) (inserted_passes timeline.next) (omega arith) (omega arith)
-                    (new_row_made position op kind values within (leb-false most_rows (length timeline.rows) room) lower)
-              ] refl
-        ] refl
+        one_fits (edits timeline edit (timeline.next + 1) (Inserted timeline.next)) (λ room below.
+        edit_stays edit (timeline.next + 1) (Inserted timeline.next) (inserted_passes timeline.next) (omega arith) (omega arith)
+        (new_row_made position op kind values within room below))
 
     insert_at : (spot : Spot) (op : Op) → kind_of op ≡ timeline.kind → HasValues op → (position : Option Position) → IfSome position (λ p. p.place ≤ length timeline.rows)
         → StaysGood timeline (inserts_at timeline (row_named spot) op position)
@@ -249,27 +251,17 @@ module _ (truth : EditsAreReported) (spells : EditsAreSpelled) (back : PrintedRe
         → StaysGood timeline (shifts_there timeline (shift_of timeline.rows target timeline.next place old))
     shift_there target place old kind values there =
         let step : Step = shift_of timeline.rows target timeline.next place old in
-        let made : TimelineEffect = makes timeline step (timeline.next + 1) (Inserted timeline.next) in
-        elim (nat_le most_rows (length timeline.rows)) as (λ b. nat_le most_rows (length timeline.rows) ≡ b
-        → StaysGood timeline (cond b (refuses timeline refusals.Full) (cond (nat_le next_limit timeline.next) (refuses timeline refusals.Numbers) made))) [
-          | true ↦ λ full. refused_stays timeline refusals.Full good tt
-          | false ↦ λ room.
-              elim (nat_le next_limit timeline.next) as (λ b. nat_le next_limit timeline.next ≡ b → StaysGood timeline (cond b (refuses timeline refusals.Numbers) made)) [
-                | true ↦ λ out. refused_stays timeline refusals.Numbers good tt
-                | false ↦ λ below.
-                    let lower : timeline.next < next_limit = leb-false next_limit timeline.next below in
-                    make_stays step (timeline.next + 1) (Inserted timeline.next) (inserted_passes timeline.next) (omega arith) (omega arith)
-                    (shift_made shifts_made timeline.kind timeline.rows timeline.next target place old (record {
-                      sound = good.sound;
-                      least = good.least;
-                      room = leb-false most_rows (length timeline.rows) room;
-                      below = lower;
-                      of_kind = kind;
-                      values = values;
-                      there = there;
-                    }))
-              ] refl
-        ] refl
+        one_fits (makes timeline step (timeline.next + 1) (Inserted timeline.next)) (λ room below.
+        make_stays step (timeline.next + 1) (Inserted timeline.next) (inserted_passes timeline.next) (omega arith) (omega arith)
+        (shift_made shifts_made timeline.kind timeline.rows timeline.next target place old (record {
+          sound = good.sound;
+          least = good.least;
+          room = room;
+          below = below;
+          of_kind = kind;
+          values = values;
+          there = there;
+        })))
 
     shift_from : (number : ℕ) (target : Target) (place : ℕ) (row : Option Row) → IsTargetOf timeline.kind target → HasTarget target → slice_get timeline.rows place ≡ row
         → StaysGood timeline (shifts_by timeline number (option_map (shift_of timeline.rows target timeline.next place) row))

@@ -19,13 +19,13 @@ use Rattle.retro_base.specs.declared.row.Entry.{Entry}
 use Rattle.retro_base.specs.declared.row.Row.{Row}
 use Rattle.retro_base.specs.Limits.{longest_name, most_timelines}
 use Rattle.retro_base.specs.Name.{is_name, is_name_byte, is_reserved, starts_with_letter}
-use Rattle.retro_base.specs.OpText.{op_text, value_text}
+use Rattle.retro_base.specs.OpText.{op_text}
 use Rattle.evidence.specs.declared.evidence.Evidence.{Evidence}
-use Rattle.evidence.specs.Spelling.{spelling, spaced, edit_text, row_text, bridge_text, change_text, entry_text}
+use Rattle.evidence.specs.Spelling.{spelling, edit_text, row_text, bridge_text, change_text, entry_text}
 use Rattle.script_grammar.specs.AnswerText.{answer_text, item_text, listing_text}
 use Rattle.timeline_file.specs.declared.block.RowCause.{RowCause}
 use Rattle.timeline_file.specs.declared.block.RowCause.TheVariants as causes
-use Rattle.timeline_file.specs.Saved.{count_text, header_text, kind_text, next_text}
+use Rattle.timeline_file.specs.Saved.{header_text, kind_text}
 use Rattle.timeline_file.specs.Saved as files
 use Rattle.workbench.specs.declared.outcome.Refusal.{Refusal}
 use Rattle.workbench.specs.declared.outcome.Refusal.TheVariants as refusals
@@ -99,7 +99,7 @@ op_printable (PushL v) = value_printable v
 op_printable (PushR v) = value_printable v
 op_printable PopL = refl
 op_printable PopR = refl
-op_printable (Put key v) = printable-append (signed_decimal key) (value_text v) (value_printable key) (value_printable v)
+op_printable (Put key v) = search (printable-append, value_printable)
 op_printable (Del key) = value_printable key
 op_printable (Ins key) = value_printable key
 op_printable DelMin = refl
@@ -114,31 +114,26 @@ bridge_printable None = refl
 bridge_printable (Some bridge) = decimal_printable bridge
 
 entry_printable : (entry : Entry) → is_printable (entry_text entry) ≡ true
-entry_printable entry = printable-append (decimal entry.number) (spaced (signed_decimal entry.key)) (decimal_printable entry.number) (value_printable entry.key)
+entry_printable entry = search (printable-append, decimal_printable, value_printable)
 
 change_printable : (change : Change) → is_printable (change_text change) ≡ true
 change_printable Plain = refl
-change_printable (Gain bridge entry) = printable-append (decimal bridge) (spaced (codes "gain") ++ spaced (entry_text entry)) (decimal_printable bridge) (entry_printable entry)
-change_printable (Lose bridge entry) = printable-append (bridge_text bridge) (spaced (codes "lose") ++ spaced (entry_text entry)) (bridge_printable bridge) (entry_printable entry)
+change_printable (Gain bridge entry) = search (printable-append, decimal_printable, entry_printable)
+change_printable (Lose bridge entry) = search (printable-append, bridge_printable, entry_printable)
 
 pub spelling_printable : (e : Evidence) → is_name e.name ≡ true → is_printable (spelling e) ≡ true
 unfolding spelling
-spelling_printable e named =
-    printable-append e.name _ (name_printable e.name named)
-    (printable-append (spaced (edit_text e.added e.place)) _ (edit_printable e.added e.place)
-    (printable-append (spaced (row_text e.number e.op)) _
-    (printable-append (decimal e.number) (spaced (op_text e.op)) (decimal_printable e.number) (op_printable e.op))
-    (change_printable e.change)))
+spelling_printable e named = search (printable-append, name_printable, edit_printable, decimal_printable, op_printable, change_printable) depth 8
 
 -- answers
 pub answer_printable : (answer : Answer) → is_printable (answer_text answer) ≡ true
 answer_printable (Number v) = value_printable v
-answer_printable (Pair key v) = printable-append (signed_decimal key) (codes ":" ++ signed_decimal v) (value_printable key) (value_printable v)
+answer_printable (Pair key v) = search (printable-append, value_printable)
 answer_printable Nothing = refl
 
 item_printable : (item : Item) → is_printable (item_text item) ≡ true
 item_printable (contents.Single v) = value_printable v
-item_printable (contents.Pair key v) = printable-append (signed_decimal key) (codes ":" ++ signed_decimal v) (value_printable key) (value_printable v)
+item_printable (contents.Pair key v) = search (printable-append, value_printable)
 
 items_printable : (items : List Item) → is_printable (flat_map item_text items) ≡ true
 items_printable [] = refl
@@ -157,21 +152,14 @@ kind_printable Dict = refl
 kind_printable Pq = refl
 
 pub header_printable : (name : List ℕ) (kind : Kind) (next count : ℕ) → is_name name ≡ true → is_printable (header_text name kind next count) ≡ true
-header_printable name kind next count named =
-    printable-append name (files.spaced (kind_text kind) ++ (next_text next ++ count_text count)) (name_printable name named)
-    (printable-append (files.spaced (kind_text kind)) (next_text next ++ count_text count) (kind_printable kind)
-    (printable-append (next_text next) (count_text count) (decimal_printable next) (decimal_printable count)))
+header_printable name kind next count named = search (printable-append, name_printable, kind_printable, decimal_printable)
 
 pub row_printable : (row : Row) → is_printable (files.row_text row) ≡ true
-row_printable row =
-    printable-append (decimal row.number) _ (decimal_printable row.number)
-    (printable-append (files.spaced (decimal row.time)) (files.spaced (op_text row.op)) (decimal_printable row.time) (op_printable row.op))
+row_printable row = search (printable-append, decimal_printable, op_printable)
 
 -- the fate of what a row put in
 pub taken_printable : (number time : ℕ) → is_printable (codes "= taken #" ++ decimal number ++ codes " " ++ decimal time) ≡ true
-taken_printable number time =
-    printable-append (codes "= taken #" ++ decimal number ++ codes " ") (decimal time)
-    (printable-append (codes "= taken #" ++ decimal number) (codes " ") (decimal_printable number) refl) (decimal_printable time)
+taken_printable number time = search (printable-append, decimal_printable)
 
 -- refusals
 row_cause_printable : (cause : RowCause) → is_printable (cause_text cause) ≡ true
@@ -198,14 +186,10 @@ refusal_printable refusals.Full named = refl
 refusal_printable refusals.Numbers named = refl
 refusal_printable refusals.NothingToUndo named = refl
 refusal_printable refusals.NothingToRedo named = refl
-refusal_printable (refusals.RowLine place cause) named =
-    printable-append (codes "refused row " ++ decimal place ++ codes " ") (cause_text cause)
-    (printable-append (codes "refused row " ++ decimal place) (codes " ") (decimal_printable place) refl) (row_cause_printable cause)
+refusal_printable (refusals.RowLine place cause) named = search (printable-append, decimal_printable, row_cause_printable)
 refusal_printable refusals.Unfinished named = refl
 refusal_printable refusals.Next named = refl
 refusal_printable refusals.Rows named = refl
 refusal_printable (refusals.NoItem number) named = decimal_printable number
 refusal_printable (refusals.NoFollower number) named = decimal_printable number
-refusal_printable (refusals.At number time) named =
-    printable-append (codes "refused at #" ++ decimal number ++ codes " ") (decimal time)
-    (printable-append (codes "refused at #" ++ decimal number) (codes " ") (decimal_printable number) refl) (decimal_printable time)
+refusal_printable (refusals.At number time) named = search (printable-append, decimal_printable)

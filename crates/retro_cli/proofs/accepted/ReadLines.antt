@@ -1,32 +1,34 @@
 -- A judge that reads what was written: it is cut into the lines that were written, and each of them is accepted or passed over.
-use Rattle.std.proofs.Common.{◌≡◌, ℕ, ◌+◌, ◌<◌, Bool, true, false, nat_le, cond, List, [], ◌∷◌, ◌++◌, refl, sym, ap, ◌∙◌, subst, arith, append_assoc, append-nil, Option, Some, None, Result, Ok, Err}
-use Rattle.std.specs.List.{count_by}
+use Rattle.std.proofs.Common.{◌≡◌, ℕ, ◌+◌, ◌<◌, Bool, true, false, nat_le, cond, List, [], ◌∷◌, ◌++◌, codes, refl, sym, ap, ◌∙◌, subst, arith, append_assoc, append-nil, None, Ok}
+use Rattle.std.specs.List.{count_by, join_with_byte}
+use Rattle.std.specs.Str.{bytes_eq}
 use Rattle.std.proofs.lemmas.Bool.{and_parts, leb-true, ne_eqb}
+use Rattle.std.proofs.lemmas.List.Elements.{filter_map-append}
+use Rattle.std.proofs.lemmas.List.Splits.{join_with_byte-slice_split}
 use Rattle.std.proofs.lemmas.List.Sums.{sum_by-cons}
-use Rattle.retro_base.specs.LineLength.{is_long}
+use Rattle.retro_base.specs.Facts.{same_bytes}
 use Rattle.retro_io.specs.Lines.{has_line_feed, lines, without_return}
 use Rattle.retro_io.specs.LineLaws.{lines-cut}
 use Rattle.evidence.specs.declared.evidence.Evidence.{Evidence}
-use Rattle.evidence.specs.Evidence.{Spells}
-use Rattle.evidence.specs.Reading.{evidence_of}
-use Rattle.evidence_check.specs.declared.error.CheckError.{CheckError}
-use Rattle.evidence_check.specs.declared.error.CheckError.TheVariants as causes
-use Rattle.evidence_check.specs.Judgement.{Judge, accepted, decided, first_cause, is_evidence_line, judged, judged_evidence, judged_line, judgement, judgement_from, nothing_reported, reported_after}
-use Rattle.evidence_check.specs.declared.error.CheckError.TheVariants as causes
-use Rattle.evidence_check.specs.JudgementLaws.{judged-other}
+use Rattle.evidence.specs.Evidence.{IsEvidence}
+use Rattle.evidence.specs.Laws.{LinesAreShort, PrintedReadsBack}
+use Rattle.evidence.specs.Reading.{evidence_of, named, spelled_by, words}
+use Rattle.evidence.specs.Spelling.{spelling}
+use Rattle.evidence_check.specs.Judgement.{Judge, accepted, decided, first_cause, is_evidence_line, judged, judgement, judgement_from, nothing_reported, reported_after}
+use Rattle.evidence_check.specs.JudgementLaws.{judged-other, judged-spelling}
 use Rattle.workbench.specs.Outcome.{as_line}
+use Rattle.retro_cli.specs.Events.{events_among, events_spelled}
 use Rattle.retro_cli.proofs.accepted.Leads.{Leads, leads-append, leads_one}
 use Rattle.retro_cli.proofs.accepted.Printable.{is_printable}
 
--- the line spells evidence
-pub record SpellsSome (line : List ℕ) : Type 0 where
-  pub evidence : Evidence
-  pub spells : Spells line evidence
+-- the judge after evidence that it accepts
+abbrev pub with_event : Judge → Evidence → Judge
+with_event judge e = record { reported = reported_after judge.reported e; accepted = judge.accepted + 1 }
 
--- the judge takes the line, and is then this one; a line of evidence spells what it tells
-pub record Takes (judge : Judge) (line : List ℕ) (after : Judge) : Type 0 where
-  pub goes : judged judge line ≡ Ok after
-  pub spelled : is_evidence_line line ≡ true → SpellsSome line
+-- what a judge makes of a line: one that is no evidence is passed over, and true evidence is taken
+pub data Takes (judge : Judge) : List ℕ → Judge → Type 0 where
+  passes : (line : List ℕ) → is_evidence_line line ≡ false → Takes judge line judge
+  tells : (e : Evidence) → IsEvidence e → first_cause judge.reported e ≡ None → Takes judge (spelling e) (with_event judge e)
 
 -- the text is some lines, which the judge takes
 pub record Reads (judge : Judge) (text : List ℕ) (after : Judge) : Type 0 where
@@ -79,53 +81,68 @@ reads_line judge after text is takes = record {
 
 -- a line that is no evidence is passed over
 pub reads_other : (judge : Judge) (text : List ℕ) → is_printable text ≡ true → is_evidence_line text ≡ false → Reads judge (as_line text) judge
-reads_other judge text is other = reads_line judge judge text is (record {
-  goes = judged-other judge text other;
-  spelled = λ begins. let wrong : true ≡ false = sym begins ∙ other in absurd (cc);
-})
+reads_other judge text is other = reads_line judge judge text is (Takes.passes text other)
+
+-- A line that is no evidence spells no event.
+no_words : (all : List (List ℕ)) → is_evidence_line (join_with_byte 32 all) ≡ false → spelled_by all ≡ None
+no_words [] other = refl
+no_words (word ∷ []) other =
+    elim (bytes_eq word (codes "edit")) as (λ b. cond b (named []) None ≡ None) [ true ↦ refl | false ↦ refl ]
+no_words (word ∷ next ∷ rest) other =
+    elim (bytes_eq word (codes "edit"))
+    as (λ b. bytes_eq word (codes "edit") ≡ b → cond b (named (next ∷ rest)) None ≡ None) [
+      | true ↦ λ begins.
+          let wrong : true ≡ false =
+          subst (λ first. is_evidence_line (join_with_byte 32 (first ∷ next ∷ rest)) ≡ false)
+          (same_bytes word (codes "edit") begins) other in
+          absurd (cc)
+      | false ↦ λ apart. refl
+    ] refl
+
+pub no_event : (line : List ℕ) → is_evidence_line line ≡ false → evidence_of line ≡ None
+unfolding evidence_of
+no_event line other =
+    no_words (words line) (subst (λ l. is_evidence_line l ≡ false) (sym (join_with_byte-slice_split 32 line)) other)
+
+-- the lines of a text that was read
+pub lines_read : (judge after : Judge) (text : List ℕ) (reads : Reads judge text after) → lines text ≡ reads.read
+lines_read judge after text reads = ap lines (sym (append-nil text)) ∙ reads.cut [] ∙ append-nil reads.read
+
+-- and so the events among a text that was read and another one after it are those of the one, and then those of the other
+pub events-append : (judge middle : Judge) (front back : List ℕ) → Reads judge front middle → events_among (front ++ back) ≡ events_among front ++ events_among back
+events-append judge middle front back reads =
+    ap events_spelled (reads.cut back) ∙ filter_map-append evidence_of reads.read (lines back)
+    ∙ ap (λ es. events_spelled es ++ events_among back) (sym (lines_read judge middle front reads))
 
 -- One evidence line more is accepted where one is taken.
 abbrev one_if : Bool → ℕ
 one_if test = cond test 1 0
 
-decided_once : (cause : Option CheckError) (judge after : Judge) (e : Evidence) → decided cause judge e ≡ Ok after → after.accepted ≡ judge.accepted + 1
-decided_once (Some cause) judge after e is = absurd (cc)
-decided_once None judge after e is =
-    let same : ◌≡◌ {A = Judge} (record { reported = reported_after judge.reported e; accepted = judge.accepted + 1 }) after = cc in sym (ap (λ (j : Judge). j.accepted) same)
-
-evidence_once : (spelled : Option Evidence) (judge after : Judge) → judged_evidence judge spelled ≡ Ok after → after.accepted ≡ judge.accepted + 1
-evidence_once None judge after is = absurd (cc)
-evidence_once (Some e) judge after is = decided_once (first_cause judge.reported e) judge after e is
-
-line_once : (long : Bool) (judge after : Judge) (line : List ℕ) → is_evidence_line line ≡ true → judged_line judge line long ≡ Ok after → after.accepted ≡ judge.accepted + 1
-unfolding judged_line
-line_once true judge after line begins is = let wrong : ◌≡◌ {A = Result Judge CheckError} (Err causes.Syntax) (Ok after) = rw begins at is in absurd (cc)
-line_once false judge after line begins is = evidence_once (evidence_of line) judge after (rw begins at is)
+spelling_begins : (e : Evidence) → is_evidence_line (spelling e) ≡ true
+unfolding spelling
+spelling_begins e = refl
 
 line_counts : (judge after : Judge) (line : List ℕ) → Takes judge line after → after.accepted ≡ judge.accepted + one_if (is_evidence_line line)
-line_counts judge after line takes =
-    elim (is_evidence_line line) as (λ b. is_evidence_line line ≡ b → after.accepted ≡ judge.accepted + one_if b) [
-      | true ↦ λ begins. line_once (is_long line) judge after line begins takes.goes
-      | false ↦ λ other.
-          let same : judge ≡ after = let ok : Ok judge ≡ Ok after = sym (judged-other judge line other) ∙ takes.goes in cc in
-          sym (ap (λ (j : Judge). j.accepted) same) ∙ omega arith
-    ] refl
+line_counts judge after line (Takes.passes passed other) = rw other (omega arith)
+line_counts judge after line (Takes.tells e is none) = rw (spelling_begins e) refl
 
--- so the lines that a judge takes are accepted, in as many lines as are evidence
-all_accepted : (written : List (List ℕ)) (before : ℕ) (judge after : Judge) → Leads Takes judge written after
-    → judgement_from before judge written ≡ accepted (judge.accepted + count_by is_evidence_line written)
-all_accepted [] before judge after leads = ap accepted (omega arith)
-all_accepted (line ∷ written) before judge after leads =
-    let next = leads.0 in
-    let count : next.accepted + count_by is_evidence_line written ≡ judge.accepted + count_by is_evidence_line (line ∷ written) =
-    omega (arith, line_counts judge next line leads.1, sum_by-cons (λ l. one_if (is_evidence_line l)) line written) in
-    rw leads.1.goes (all_accepted written (before + 1) next after leads.2 ∙ ap accepted count)
+module _ (back : PrintedReadsBack) (short : LinesAreShort) where
+  goes_on : (judge after : Judge) (line : List ℕ) → Takes judge line after → judged judge line ≡ Ok after
+  goes_on judge after line (Takes.passes passed other) = judged-other judge passed other
+  goes_on judge after line (Takes.tells e is none) = judged-spelling back short judge e is ∙ ap (λ cause. decided cause judge e) none
 
-pub accepted_whole : (written : List (List ℕ)) (after : Judge) → Leads Takes nothing_reported written after → judgement written ≡ accepted (count_by is_evidence_line written)
-accepted_whole written after leads = all_accepted written 0 nothing_reported after leads ∙ ap accepted (omega arith)
+  -- so the lines that a judge takes are accepted, in as many lines as are evidence
+  all_accepted : (written : List (List ℕ)) (before : ℕ) (judge after : Judge) → Leads Takes judge written after
+      → judgement_from before judge written ≡ accepted (judge.accepted + count_by is_evidence_line written)
+  all_accepted [] before judge after leads = ap accepted (omega arith)
+  all_accepted (line ∷ written) before judge after leads =
+      let next = leads.0 in
+      let count : next.accepted + count_by is_evidence_line written ≡ judge.accepted + count_by is_evidence_line (line ∷ written) =
+      omega (arith, line_counts judge next line leads.1, sum_by-cons (λ l. one_if (is_evidence_line l)) line written) in
+      rw (goes_on judge next line leads.1) (all_accepted written (before + 1) next after leads.2 ∙ ap accepted count)
 
--- a text that the judge takes whole is accepted
-pub reads_whole : (text : List ℕ) (after : Judge) → Reads nothing_reported text after → judgement (lines text) ≡ accepted (count_by is_evidence_line (lines text))
-reads_whole text after reads =
-    let same : lines text ≡ reads.read = ap lines (sym (append-nil text)) ∙ reads.cut [] ∙ append-nil reads.read in
-    subst (λ written. judgement written ≡ accepted (count_by is_evidence_line written)) (sym same) (accepted_whole reads.read after reads.taken)
+  -- a text that the judge takes whole is accepted
+  pub reads_whole : (text : List ℕ) (after : Judge) → Reads nothing_reported text after → judgement (lines text) ≡ accepted (count_by is_evidence_line (lines text))
+  reads_whole text after reads =
+      subst (λ written. judgement written ≡ accepted (count_by is_evidence_line written)) (sym (lines_read nothing_reported after text reads))
+      (all_accepted reads.read 0 nothing_reported after reads.taken ∙ ap accepted (omega arith))

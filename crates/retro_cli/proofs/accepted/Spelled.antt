@@ -1,12 +1,9 @@
 -- The name of a command is one, and the numbers of a command and of a row line are in their ranges.
 use Rattle.std.proofs.Common.{◌≡◌, ℕ, zero, suc, ◌-◌, ◌^◌, ◌≤◌, nat_le, ◌&&◌, ℤ, pos, Bool, true, false, cond, refl, arith, List, [], ◌∷◌}
-use Rattle.std.specs.Prelude.{◌==◌, codes, neg_ℤ, Option, Some, None, option_map, option_and_then, IfSome, IfOk}
+use Rattle.std.specs.Prelude.{◌==◌, neg_ℤ, Option, Some, None, option_map, option_and_then, IfSome, IfOk}
 use Rattle.std.specs.Option.{ok_or}
-use Rattle.std.specs.Str.{bytes_eq}
 use Rattle.std.proofs.lemmas.Bool.{and_parts, leb-true}
 use Rattle.retro_base.specs.declared.kind.Kind.{Kind}
-use Rattle.retro_base.specs.declared.kind.Kind.TheVariants.{Pq}
-use Rattle.retro_base.specs.declared.op.Op.TheVariants.{Enq, Deq, Push, Pop, PushL, PushR, PopL, PopR, Put, Del, Ins, DelMin}
 use Rattle.retro_base.specs.declared.row.Row.{Row}
 use Rattle.retro_base.specs.Limits.{next_limit}
 use Rattle.retro_base.specs.Name.{is_name, name_of}
@@ -15,17 +12,15 @@ use Rattle.script_grammar.specs.declared.command.Command.{Command}
 use Rattle.script_grammar.specs.declared.command.Command.TheVariants.{Nothing, New, Insert, Delete, Move, Change, Fate, Ask, Undo, Redo, Save, Mute, Header}
 use Rattle.script_grammar.specs.declared.command.LineError.TheVariants.{Syntax}
 use Rattle.script_grammar.specs.declared.command.Spot.{Spot}
-use Rattle.script_grammar.specs.declared.command.Moment.TheVariants.{Now, Then}
 use Rattle.script_grammar.specs.declared.operands.Operands.{Operands}
 use Rattle.script_grammar.specs.declared.operands.Operands.TheVariants.{Bare, Unary, Binary}
 use Rattle.script_grammar.specs.BlockLines.{row_read, row_spelled, row_with}
-use Rattle.script_grammar.specs.Command.{about, ask_at, ask_of, ask_then, begins_comment, begins_spot, change_of, command, command_of}
+use Rattle.script_grammar.specs.Command.{about, ask_at, ask_of, ask_then, change_of, command, command_of}
 use Rattle.script_grammar.specs.Command.{delete_of, fate_of, header_count, header_end, header_kind, header_next, header_of, header_rows}
-use Rattle.script_grammar.specs.Command.{insert_of, kind_of_word, move_at, move_of, move_time, mute_of, new_kind, new_of, save_of, spot_of}
-use Rattle.script_grammar.specs.Numbers.{between, count_of, follower_of, natural_of, next_of, row_number_of, time_of, up_to, value_of}
+use Rattle.script_grammar.specs.Command.{insert_of, move_at, move_of, move_time, mute_of, new_kind, new_of, save_of, spot_of}
+use Rattle.script_grammar.specs.Numbers.{between, natural_of, next_of, row_number_of, time_of, up_to, value_of}
 use Rattle.script_grammar.specs.Operands.{alone, operands_after, operands_of}
 use Rattle.script_grammar.specs.Operations.{op_of, op_with}
-use Rattle.script_grammar.specs.Queries.{query_of}
 use Rattle.script_grammar.specs.SpellingLaws.{HasValues, IsValue}
 use Rattle.script_grammar.specs.Words.{words}
 
@@ -141,20 +136,9 @@ operands_spelled (word ∷ rest) =
     chained_from AreValues IsValue (λ first. operands_after first rest) (value_of word) (value_spelled word) (λ first value. operands_after_spelled first rest value)
 
 op_with_spelled : (word : List ℕ) (operands : Operands) → AreValues operands → IfSome (op_with word operands) HasValues
-op_with_spelled word Bare are =
-    chosen HasValues (bytes_eq word (codes "deq")) (Some Deq) _ tt
-    (chosen HasValues (bytes_eq word (codes "pop")) (Some Pop) _ tt
-    (chosen HasValues (bytes_eq word (codes "popl")) (Some PopL) _ tt
-    (chosen HasValues (bytes_eq word (codes "popr")) (Some PopR) _ tt
-    (chosen HasValues (bytes_eq word (codes "delmin")) (Some DelMin) None tt tt))))
-op_with_spelled word (Unary value) are =
-    chosen HasValues (bytes_eq word (codes "enq")) (Some (Enq value)) _ are
-    (chosen HasValues (bytes_eq word (codes "push")) (Some (Push value)) _ are
-    (chosen HasValues (bytes_eq word (codes "pushl")) (Some (PushL value)) _ are
-    (chosen HasValues (bytes_eq word (codes "pushr")) (Some (PushR value)) _ are
-    (chosen HasValues (bytes_eq word (codes "del")) (Some (Del value)) _ are
-    (chosen HasValues (bytes_eq word (codes "ins")) (Some (Ins value)) None are tt)))))
-op_with_spelled word (Binary key value) are = chosen HasValues (bytes_eq word (codes "put")) (Some (Put key value)) None are tt
+op_with_spelled word Bare are = search chosen depth 10
+op_with_spelled word (Unary value) are = search chosen depth 10
+op_with_spelled word (Binary key value) are = search chosen depth 10
 
 op_spelled : (rest : List (List ℕ)) → IfSome (op_of rest) HasValues
 op_spelled [] = tt
@@ -164,8 +148,7 @@ op_spelled (word ∷ rest) = chained_from HasValues AreValues (λ operands. op_w
 row_with_spelled : (number : ℕ) (rest : List (List ℕ)) → IsRowNumber number → IfSome (row_with number rest) IsRowSpelled
 row_with_spelled number [] is = tt
 row_with_spelled number (word ∷ rest) is =
-    chained IsRowSpelled (λ time. option_map (λ op. record { number = number; time = time; op = op }) (op_of rest)) (time_of word)
-    (λ time. mapped_from IsRowSpelled HasValues (λ op. record { number = number; time = time; op = op }) (op_of rest) (op_spelled rest) (λ op values. (is, values)))
+    chained IsRowSpelled _ (time_of word) (λ time. mapped_from IsRowSpelled HasValues _ (op_of rest) (op_spelled rest) (λ op values. (is, values)))
 
 row_words_spelled : (spelled : List (List ℕ)) → IfSome (row_spelled spelled) IsRowSpelled
 row_words_spelled [] = tt
@@ -177,93 +160,80 @@ unfolding row_read
 row_is_spelled line = row_words_spelled (words line)
 
 -- commands
+with_name : (f : List ℕ → Option Command) (word : List ℕ) → ((name : List ℕ) → IsNamed name → IfSome (f name) IsSpelled) → IfSome (option_and_then f (name_of word)) IsSpelled
+with_name f word each = chained_from IsSpelled IsNamed f (name_of word) (named_spelled word) each
+
 new_kind_spelled : (name : List ℕ) → IsNamed name → (rest : List (List ℕ)) → IfSome (new_kind name rest) IsSpelled
 new_kind_spelled name named [] = tt
-new_kind_spelled name named (word ∷ rest) =
-    chosen IsSpelled (bytes_eq word (codes "pqf")) _ _ (last IsSpelled (New name Pq true) rest named)
-    (chained IsSpelled (λ kind. alone (New name kind false) rest) (kind_of_word word) (λ kind. last IsSpelled (New name kind false) rest named))
+new_kind_spelled name named (word ∷ rest) = search (chosen, chained, last) depth 8
 
 new_spelled : (rest : List (List ℕ)) → IfSome (new_of rest) IsSpelled
 new_spelled [] = tt
-new_spelled (word ∷ rest) =
-    chained_from IsSpelled IsNamed (λ name. new_kind name rest) (name_of word) (named_spelled word) (λ name named. new_kind_spelled name named rest)
+new_spelled (word ∷ rest) = with_name (λ name. new_kind name rest) word (λ name named. new_kind_spelled name named rest)
 
 save_spelled : (rest : List (List ℕ)) → IfSome (save_of rest) IsSpelled
 save_spelled [] = tt
-save_spelled (word ∷ rest) =
-    chained_from IsSpelled IsNamed (λ name. alone (Save name) rest) (name_of word) (named_spelled word) (λ name named. last IsSpelled (Save name) rest named)
+save_spelled (word ∷ rest) = with_name (λ name. alone (Save name) rest) word (λ name named. last IsSpelled (Save name) rest named)
 
 mute_spelled : (rest : List (List ℕ)) → IfSome (mute_of rest) IsSpelled
 mute_spelled [] = tt
-mute_spelled (word ∷ rest) = chained IsSpelled (λ number. alone (Mute number) rest) (follower_of word) (λ number. last IsSpelled (Mute number) rest tt)
+mute_spelled (word ∷ rest) = search (chained, last)
 
 module _ (name : List ℕ) (named : IsNamed name) where
   insert_spelled : (word : List ℕ) (rest : List (List ℕ)) → IfSome (insert_of name word rest) IsSpelled
   insert_spelled word [] = tt
   insert_spelled word (place ∷ rest) =
-      chained IsSpelled (λ spot. option_map (Insert name spot) (op_of rest)) (spot_of word place)
-      (λ spot. mapped_from IsSpelled HasValues (Insert name spot) (op_of rest) (op_spelled rest) (λ op values. (named, values)))
+      chained IsSpelled _ (spot_of word place) (λ spot. mapped_from IsSpelled HasValues (Insert name spot) (op_of rest) (op_spelled rest) (λ op values. (named, values)))
 
   delete_spelled : (rest : List (List ℕ)) → IfSome (delete_of name rest) IsSpelled
   delete_spelled [] = tt
-  delete_spelled (word ∷ rest) = chained IsSpelled (λ number. alone (Delete name number) rest) (row_number_of word) (λ number. last IsSpelled (Delete name number) rest named)
+  delete_spelled (word ∷ rest) = search (chained, last)
 
   move_time_spelled : (number : ℕ) (rest : List (List ℕ)) → IfSome (move_time name number rest) IsSpelled
   move_time_spelled number [] = tt
-  move_time_spelled number (word ∷ rest) = chained IsSpelled (λ time. alone (Move name number time) rest) (time_of word) (λ time. last IsSpelled (Move name number time) rest named)
+  move_time_spelled number (word ∷ rest) = search (chained, last)
 
   move_at_spelled : (number : ℕ) (rest : List (List ℕ)) → IfSome (move_at name number rest) IsSpelled
   move_at_spelled number [] = tt
-  move_at_spelled number (word ∷ rest) = chosen IsSpelled (bytes_eq word (codes "at")) (move_time name number rest) None (move_time_spelled number rest) tt
+  move_at_spelled number (word ∷ rest) = search (chosen, move_time_spelled)
 
   move_spelled : (rest : List (List ℕ)) → IfSome (move_of name rest) IsSpelled
   move_spelled [] = tt
-  move_spelled (word ∷ rest) = chained IsSpelled (λ number. move_at name number rest) (row_number_of word) (λ number. move_at_spelled number rest)
+  move_spelled (word ∷ rest) = search (chained, move_at_spelled)
 
   change_spelled : (rest : List (List ℕ)) → IfSome (change_of name rest) IsSpelled
   change_spelled [] = tt
   change_spelled (word ∷ rest) =
-      chained IsSpelled (λ number. option_map (Change name number) (op_of rest)) (row_number_of word)
-      (λ number. mapped_from IsSpelled HasValues (Change name number) (op_of rest) (op_spelled rest) (λ op values. (named, values)))
+      chained IsSpelled _ (row_number_of word) (λ number. mapped_from IsSpelled HasValues (Change name number) (op_of rest) (op_spelled rest) (λ op values. (named, values)))
 
   fate_spelled : (rest : List (List ℕ)) → IfSome (fate_of name rest) IsSpelled
   fate_spelled [] = tt
-  fate_spelled (word ∷ rest) = chained IsSpelled (λ number. alone (Fate name number) rest) (row_number_of word) (λ number. last IsSpelled (Fate name number) rest named)
+  fate_spelled (word ∷ rest) = search (chained, last)
 
   ask_at_spelled : (spot : Spot) (rest : List (List ℕ)) → IfSome (ask_at name spot rest) IsSpelled
   ask_at_spelled spot [] = tt
-  ask_at_spelled spot (word ∷ rest) = mapped IsSpelled (Ask name (Then spot)) (query_of word rest) (λ query. named)
+  ask_at_spelled spot (word ∷ rest) = search mapped
 
   ask_then_spelled : (word : List ℕ) (rest : List (List ℕ)) → IfSome (ask_then name word rest) IsSpelled
   ask_then_spelled word [] = tt
-  ask_then_spelled word (place ∷ rest) = chained IsSpelled (λ spot. ask_at name spot rest) (spot_of word place) (λ spot. ask_at_spelled spot rest)
+  ask_then_spelled word (place ∷ rest) = search (chained, ask_at_spelled)
 
   ask_spelled : (rest : List (List ℕ)) → IfSome (ask_of name rest) IsSpelled
   ask_spelled [] = tt
-  ask_spelled (word ∷ rest) =
-      chosen IsSpelled (begins_spot word) (ask_then name word rest) (option_map (Ask name Now) (query_of word rest)) (ask_then_spelled word rest)
-      (mapped IsSpelled (Ask name Now) (query_of word rest) (λ query. named))
+  ask_spelled (word ∷ rest) = search (chosen, mapped, ask_then_spelled)
 
   about_spelled : (rest : List (List ℕ)) → IfSome (about name rest) IsSpelled
   about_spelled [] = tt
   about_spelled (word ∷ rest) =
-      chosen IsSpelled (bytes_eq word (codes "ask")) _ _ (ask_spelled rest)
-      (chosen IsSpelled (bytes_eq word (codes "delete")) _ _ (delete_spelled rest)
-      (chosen IsSpelled (bytes_eq word (codes "move")) _ _ (move_spelled rest)
-      (chosen IsSpelled (bytes_eq word (codes "change")) _ _ (change_spelled rest)
-      (chosen IsSpelled (bytes_eq word (codes "fate")) _ _ (fate_spelled rest)
-      (chosen IsSpelled (bytes_eq word (codes "undo")) _ _ (last IsSpelled (Undo name) rest named)
-      (chosen IsSpelled (bytes_eq word (codes "redo")) _ _ (last IsSpelled (Redo name) rest named) (insert_spelled word rest)))))))
+      search (chosen, last, ask_spelled, delete_spelled, move_spelled, change_spelled, fate_spelled, insert_spelled) depth 12
 
   header_count_spelled : (kind : Kind) (next : ℕ) (rest : List (List ℕ)) → IsNext next → IfSome (header_count name kind next rest) IsSpelled
   header_count_spelled kind next [] range = tt
-  header_count_spelled kind next (word ∷ rest) range =
-      chained IsSpelled (λ rows. alone (Header name kind next (Some rows)) rest) (count_of word) (λ rows. last IsSpelled (Header name kind next (Some rows)) rest (named, range))
+  header_count_spelled kind next (word ∷ rest) range = search (chained, last)
 
   header_rows_spelled : (kind : Kind) (next : ℕ) (rest : List (List ℕ)) → IsNext next → IfSome (header_rows name kind next rest) IsSpelled
   header_rows_spelled kind next [] range = (named, range)
-  header_rows_spelled kind next (word ∷ rest) range =
-      chosen IsSpelled (bytes_eq word (codes "rows")) (header_count name kind next rest) None (header_count_spelled kind next rest range) tt
+  header_rows_spelled kind next (word ∷ rest) range = search (chosen, header_count_spelled)
 
   header_next_spelled : (kind : Kind) (rest : List (List ℕ)) → IfSome (header_next name kind rest) IsSpelled
   header_next_spelled kind [] = tt
@@ -272,26 +242,19 @@ module _ (name : List ℕ) (named : IsNamed name) where
 
   header_end_spelled : (kind : Kind) (rest : List (List ℕ)) → IfSome (header_end name kind rest) IsSpelled
   header_end_spelled kind [] = tt
-  header_end_spelled kind (word ∷ rest) = chosen IsSpelled (bytes_eq word (codes "next")) (header_next name kind rest) None (header_next_spelled kind rest) tt
+  header_end_spelled kind (word ∷ rest) = search (chosen, header_next_spelled)
 
   header_kind_spelled : (rest : List (List ℕ)) → IfSome (header_kind name rest) IsSpelled
   header_kind_spelled [] = tt
-  header_kind_spelled (word ∷ rest) = chained IsSpelled (λ kind. header_end name kind rest) (kind_of_word word) (λ kind. header_end_spelled kind rest)
+  header_kind_spelled (word ∷ rest) = search (chained, header_end_spelled)
 
 header_spelled : (rest : List (List ℕ)) → IfSome (header_of rest) IsSpelled
 header_spelled [] = tt
-header_spelled (word ∷ rest) =
-    chained_from IsSpelled IsNamed (λ name. header_kind name rest) (name_of word) (named_spelled word) (λ name named. header_kind_spelled name named rest)
+header_spelled (word ∷ rest) = with_name (λ name. header_kind name rest) word (λ name named. header_kind_spelled name named rest)
 
 command_words_spelled : (spelled : List (List ℕ)) → IfSome (command_of spelled) IsSpelled
 command_words_spelled [] = tt
-command_words_spelled (word ∷ rest) =
-    chosen IsSpelled (begins_comment word) (Some Nothing) _ tt
-    (chosen IsSpelled (bytes_eq word (codes "new")) (new_of rest) _ (new_spelled rest)
-    (chosen IsSpelled (bytes_eq word (codes "save")) (save_of rest) _ (save_spelled rest)
-    (chosen IsSpelled (bytes_eq word (codes "timeline")) (header_of rest) _ (header_spelled rest)
-    (chosen IsSpelled (bytes_eq word (codes "mute")) (mute_of rest) _ (mute_spelled rest)
-    (chained_from IsSpelled IsNamed (λ name. about name rest) (name_of word) (named_spelled word) (λ name named. about_spelled name named rest))))))
+command_words_spelled (word ∷ rest) = search (chosen, with_name, new_spelled, save_spelled, header_spelled, mute_spelled, about_spelled) depth 12
 
 or_syntax : (o : Option Command) → IfSome o IsSpelled → IfOk (ok_or o Syntax) IsSpelled
 or_syntax None holds = tt

@@ -1,5 +1,5 @@
 -- What the judge is reported of edits that are made, and what it then knows of each name.
-use Rattle.std.proofs.Common.{◌≡◌, ℕ, ◌+◌, ◌≤◌, Bool, true, false, ◌&&◌, nat_le, cond, List, [], ◌∷◌, length, refl, sym, ap, ◌∙◌, subst, arith, Option, Some, None, Ok}
+use Rattle.std.proofs.Common.{◌≡◌, ℕ, ◌+◌, ◌≤◌, Bool, true, false, ◌&&◌, nat_le, cond, List, [], ◌∷◌, length, refl, sym, ap, ◌∙◌, subst, arith, Option, Some, None}
 use Rattle.std.specs.Prelude.{is_none, is_some, unwrap_or}
 use Rattle.std.specs.List.{list_any}
 use Rattle.std.specs.Str.{bytes_eq}
@@ -13,18 +13,16 @@ use Rattle.retro_base.specs.Limits.{most_timelines}
 use Rattle.retro_base.specs.Name.{is_name}
 use Rattle.evidence.specs.declared.evidence.Evidence.{Evidence}
 use Rattle.evidence.specs.Evidence.{IsEvidence}
-use Rattle.evidence.specs.Laws.{LinesAreShort, PrintedReadsBack}
 use Rattle.evidence.specs.Spelling.{spelling}
 use Rattle.evidence_check.specs.declared.error.CheckError.TheVariants as causes
-use Rattle.evidence_check.specs.Judgement.{Judge, Reported, decided, first_cause, is_named, is_one_too_many, rows_of, reported_after, with_rows}
-use Rattle.evidence_check.specs.JudgementLaws.{judged-spelling}
+use Rattle.evidence_check.specs.Judgement.{Judge, Reported, first_cause, is_named, is_one_too_many, rows_of, reported_after, with_rows}
 use Rattle.evidence_check.specs.Laws.{EditsAreSpelled, EditsAreReported, evidence_for, timeless}
 use Rattle.evidence_check.specs.Truth.{cause_of, rows_after}
 use Rattle.workbench.specs.Outcome.{evidence_line, evidence_lines}
 use Rattle.workbench.specs.Reported.{evidence_of, evidence_of_step}
 use Rattle.retro_cli.proofs.accepted.Made.{Makes, MakesStep, can_be_reported}
 use Rattle.retro_cli.proofs.accepted.Printable.{spelling_printable}
-use Rattle.retro_cli.proofs.accepted.ReadLines.{Reads, Takes, reads-append, reads_line, reads_nothing}
+use Rattle.retro_cli.proofs.accepted.ReadLines.{Reads, Takes, reads-append, reads_line, reads_nothing, with_event}
 use Rattle.retro_base.specs.Facts.{same_bytes}
 
 pub itself : (name : List ℕ) → bytes_eq name name ≡ true
@@ -187,15 +185,13 @@ none_first reported name e rows named room same none =
     ap (λ n. cond (is_one_too_many (rows_of n reported) reported) (Some causes.Timelines) (cause_of (unwrap_or (rows_of n reported) []) e)) named
     ∙ ap (λ b. cond b (Some causes.Timelines) (cause_of (unwrap_or (rows_of name reported) []) e)) room ∙ ap (λ rs. cause_of rs e) same ∙ none
 
-accepted_so : (judge : Judge) (name : List ℕ) (e : Evidence) (rows after : List Row) → e.name ≡ name → is_one_too_many (rows_of name judge.reported) judge.reported ≡ false
-    → unwrap_or (rows_of name judge.reported) [] ≡ timeless rows → cause_of (timeless rows) e ≡ None → rows_after (timeless rows) e ≡ timeless after
-    → decided (first_cause judge.reported e) judge e ≡ Ok (record { reported = with_rows name (timeless after) judge.reported; accepted = judge.accepted + 1 })
-accepted_so judge name e rows after named room same none later =
-    let no_cause : first_cause judge.reported e ≡ None = none_first judge.reported name e (timeless rows) named room same none in
-    let reported : reported_after judge.reported e ≡ with_rows name (timeless after) judge.reported =
+event_is : (judge : Judge) (name : List ℕ) (e : Evidence) (rows after : List Row) → e.name ≡ name → unwrap_or (rows_of name judge.reported) [] ≡ rows
+    → rows_after rows e ≡ after → with_event judge e ≡ record { reported = with_rows name after judge.reported; accepted = judge.accepted + 1 }
+event_is judge name e rows after named same later =
+    let reported : reported_after judge.reported e ≡ with_rows name after judge.reported =
     ap (λ n. with_rows n (rows_after (unwrap_or (rows_of n judge.reported) []) e) judge.reported) named
     ∙ ap (λ rs. with_rows name rs judge.reported) (ap (λ rs. rows_after rs e) same ∙ later) in
-    rw (no_cause, reported) refl
+    rw reported refl
 
 -- what the judge is after a text that tells of a name, and knows then
 pub record HasReported (names : List (List ℕ)) (by : List ℕ → List Row) (name : List ℕ) (after : List Row) (judge : Judge) (text : List ℕ) : Type 0 where
@@ -203,7 +199,7 @@ pub record HasReported (names : List (List ℕ)) (by : List ℕ → List Row) (n
   pub reads : Reads judge text later
   pub agrees : Agrees names (put name after by) later.reported
 
-module _ (tells : EditsAreReported) (spells : EditsAreSpelled) (back : PrintedReadsBack) (short : LinesAreShort) where
+module _ (tells : EditsAreReported) (spells : EditsAreSpelled) where
   module _ (names : List (List ℕ)) (few : length names ≤ most_timelines) (name : List ℕ) (named : is_name name ≡ true) (listed : is_listed name names ≡ true) where
     takes_edit : (next : ℕ) (judge : Judge) (by : List ℕ → List Row) (rows after : List Row) (edit : Edit) → Agrees names by judge.reported → by name ≡ rows → Makes Pq next rows edit after
         → Takes judge (spelling (evidence_of name rows edit)) (record { reported = with_rows name (timeless after) judge.reported; accepted = judge.accepted + 1 })
@@ -216,12 +212,11 @@ module _ (tells : EditsAreReported) (spells : EditsAreSpelled) (back : PrintedRe
         subst (λ e. cause_of (timeless rows) e ≡ None) (same_evidence name rows edit) truth.accepted in
         let later : rows_after (timeless rows) (evidence_of name rows edit) ≡ timeless after =
         subst (λ e. rows_after (timeless rows) e ≡ timeless (edited rows edit)) (same_evidence name rows edit) truth.after ∙ ap timeless made.leads in
-        record {
-          goes = judged-spelling back short judge (evidence_of name rows edit) is
-              ∙ accepted_so judge name (evidence_of name rows edit) rows after (named_so name rows edit) (has_room names by judge.reported name few listed agrees)
-              (agrees.same name ∙ ap timeless own) none later;
-          spelled = λ begins. record { evidence = evidence_of name rows edit; spells = record { evidence = is; spelled = refl } };
-        }
+        let known : unwrap_or (rows_of name judge.reported) [] ≡ timeless rows = agrees.same name ∙ ap timeless own in
+        let called = named_so name rows edit in
+        subst (Takes judge (spelling (evidence_of name rows edit))) (event_is judge name (evidence_of name rows edit) (timeless rows) (timeless after) called known later)
+        (Takes.tells (evidence_of name rows edit) is (none_first judge.reported name (evidence_of name rows edit) (timeless rows) called
+        (has_room names by judge.reported name few listed agrees) known none))
 
     -- and a step
     pub tells_step : (next : ℕ) (step : Step) (judge : Judge) (by : List ℕ → List Row) (rows after : List Row) → Agrees names by judge.reported → by name ≡ rows → MakesStep Pq next rows step after
