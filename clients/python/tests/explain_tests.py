@@ -92,6 +92,13 @@ class Told(unittest.TestCase):
             ],
         )
 
+    def test_a_new_row_that_takes_what_a_new_row_put_in(self):
+        picks = self.retro.new("picks", "queue")
+        with explain(picks, ["size"]) as report:
+            picks.at(50, "enq 7")
+            picks.at(60, "deq")
+        self.assertEqual(report.takes, [Take(Row(2, 60, "deq"), None, Row(1, 50, "enq 7"))])
+
     def test_a_row_keeps_who_it_is(self):
         picks = self.picks()
         with explain(picks) as report:
@@ -151,7 +158,7 @@ class Told(unittest.TestCase):
 
     def test_a_report_of_many_takes(self):
         """The first enq of a long day was wrong: each row takes something else, and the first of them are told."""
-        count = 10_000
+        count = 3_000
         rows = [Row(number, number, "enq %d" % number if number <= count else "deq") for number in range(1, 2 * count)]
         was = Saved("q", "queue", 2 * count, tuple(rows))
         picks = self.retro.load(was)
@@ -159,9 +166,9 @@ class Told(unittest.TestCase):
             picks.delete(1)
         began = time.process_time()
         text = report.text()
-        self.assertLess(time.process_time() - began, 2)
+        self.assertLess(time.process_time() - began, 0.5)
         self.assertEqual(len(report.takes), count - 1)
-        self.assertIn("  Row 10001, deq at 10001, took 1 of row 1, and takes 2 of row 2 now.\n", text)
+        self.assertIn("  Row 3001, deq at 3001, took 1 of row 1, and takes 2 of row 2 now.\n", text)
         self.assertIn("  And %d more rows.\n" % (count - 1 - 20), text)
 
 
