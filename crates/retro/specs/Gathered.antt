@@ -1,18 +1,15 @@
 -- What is claimed of a run over an outbox before a sink, with the followers that the program hands in.
-use Rattle.std.specs.Prelude.{◌≡◌, ◌<◌, ◌-◌, ◌↔◌, [], false, ℕ, List}
-use Rattle.retro_base.specs.Limits.{most_bytes}
+use Rattle.std.specs.Prelude.{◌≡◌, [], false, ℕ, List}
 use Rattle.retro_io.specs.declared.outbox.Outbox.{Outbox}
 use Rattle.retro_io.specs.declared.sink.Sink as sinks
 use Rattle.retro_io.specs.declared.source.Source as sources
-use Rattle.retro_io.specs.Faults.{CountsFaults, HasRisen, last_count}
 use Rattle.retro_io.specs.Outbox.{SendsOn, sink_of, waiting_of}
 use Rattle.followers.specs.Followers.{Reporting}
 use Rattle.retro_cli.specs.declared.status.Status.{Status}
-use Rattle.retro_cli.specs.declared.status.Status.TheVariants as statuses
 use Rattle.retro_cli.specs.Audience.{Audience, audience_of}
-use Rattle.retro_cli.specs.FollowedProgram.{HasForm, RunsFollowed}
+use Rattle.retro_cli.specs.FollowedProgram.{RunsFollowed}
 use Rattle.retro.specs.Followers.{followers_of}
-use Rattle.retro_cli.specs.Run.{EndsWithoutFault, is_read_fault, is_write_fault}
+use Rattle.retro_cli.specs.Run.{is_write_fault}
 
 -- the followers, the source before and after, the sink before, the outbox after, the status, and the words
 pub record RunsGathered {S K : Type 0} (I : sources.Ghosts S) (O : sinks.Ghosts K) (G : sinks.Ghosts (Outbox K)) (followers : List Reporting)
@@ -26,14 +23,8 @@ pub record RunsGathered {S K : Type 0} (I : sources.Ghosts S) (O : sinks.Ghosts 
   -- these followers were handed in
   pub audience : Audience
   pub handed_in : audience ≡ audience_of followers
+  -- and all was kept that a followed run promises
   pub runs : RunsFollowed I G (SendsOn O) audience source source' first outbox status words
-  -- the counts rise where a read or a write failed, and never fall; without a fault it ends with an output, out of memory, or at an input
-  -- that is too long
-  pub source_faults : CountsFaults (is_read_fault status) (I.faults source) (I.faults source')
-  pub sink_faults : CountsFaults (is_write_fault status) (G.faults first) (G.faults outbox)
-  pub complete : HasForm words → (HasRisen (I.faults source) (I.faults source') → ⊥) → (HasRisen (G.faults first) (G.faults outbox) → ⊥)
-      → EndsWithoutFault (I.left source) status
-  pub too_long : I.taken source' < last_count → (status ≡ statuses.TooLong) ↔ (most_bytes < I.taken source' - I.taken source)
   -- nothing waits in the outbox in the end, and all that was written is in the sink, unless that failed
   pub sent : is_write_fault status ≡ false → waiting_of outbox ≡ []
   pub all : is_write_fault status ≡ false → O.written (sink_of outbox) ≡ G.written outbox

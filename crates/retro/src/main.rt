@@ -5,7 +5,7 @@
 //! the next line is asked for.
 #![tactic(auto)]
 
-ghost use Rattle.std.specs.Prelude.{◌≡◌, ◌≢◌, ◌<◌, ◌≤◌, ◌-◌, ◌^◌, ◌⊎◌, ◌↔◌, ◌∷◌, [], length, map, IfOk, IfErr, OnErr};
+ghost use Rattle.std.specs.Prelude.{◌≡◌, ◌≢◌, ◌<◌, ◌≤◌, ◌-◌, ◌^◌, ◌⊎◌, ◌∷◌, [], length, map, IfOk, IfErr, OnErr};
 ghost use Rattle.std.specs.IoError.{error_kind};
 ghost use Rattle.std.specs.Process.{exit_status};
 ghost use Rattle.followers.specs.Totals.{tally};
@@ -72,7 +72,6 @@ fn run_gathered<S: Source, K: Sink + Drop>(
 ) -> Result<(Status, Outbox<K>), NoMemory>
     ensures runs { IfOk result (λ ended. RunsGathered ⟦<S as Source>⟧ ⟦<K as Sink>⟧ ⟦<Outbox<K> as Sink>⟧ (followers_of words.now)
         source.old source.new sink ended.1 ended.0 words.now) }
-    ensures words { IfOk result (λ ended. (ended.0 ≡ Status.Words) ↔ HasNoForm words.now) }
     ensures err { OnErr result (source.new ≡ source.old) }
 {
     match name_followed(words) {
@@ -101,7 +100,6 @@ fn run_with_tally<S: Source, K: Sink + Drop>(
 ) -> Result<(Status, Outbox<K>), NoMemory>
     ensures runs { IfOk result (λ ended. RunsGathered ⟦<S as Source>⟧ ⟦<K as Sink>⟧ ⟦<Outbox<K> as Sink>⟧ (tally ∷ [])
         source.old source.new sink ended.1 ended.0 words.now) }
-    ensures words { IfOk result (λ ended. (ended.0 ≡ Status.Words) ↔ HasNoForm words.now) }
     ensures err { OnErr result (source.new ≡ source.old) }
 {
     let mut followers: Vec<Box<dyn Follower>> = Vec::new(alloc);
@@ -119,7 +117,6 @@ fn run_with_mirror<S: Source, K: Sink + Drop>(
 ) -> Result<(Status, Outbox<K>), NoMemory>
     ensures runs { IfOk result (λ ended. RunsGathered ⟦<S as Source>⟧ ⟦<K as Sink>⟧ ⟦<Outbox<K> as Sink>⟧ (tally ∷ mirror name ∷ [])
         source.old source.new sink ended.1 ended.0 words.now) }
-    ensures words { IfOk result (λ ended. (ended.0 ≡ Status.Words) ↔ HasNoForm words.now) }
     ensures err { OnErr result (source.new ≡ source.old) }
 {
     let mut followers: Vec<Box<dyn Follower>> = Vec::new(alloc);
@@ -141,7 +138,6 @@ fn run_before<S: Source, K: Sink + Drop>(
     requires { length followers.items ≤ most_followers }
     ensures runs { IfOk result (λ ended. RunsGathered ⟦<S as Source>⟧ ⟦<K as Sink>⟧ ⟦<Outbox<K> as Sink>⟧
         (map (λ f. report_after f) followers.items) source.old source.new sink ended.1 ended.0 words.now) }
-    ensures words { IfOk result (λ ended. (ended.0 ≡ Status.Words) ↔ HasNoForm words.now) }
     ensures err { OnErr result (source.new ≡ source.old) }
 {
     let mut outbox = Outbox::new(alloc, sink)?;

@@ -1,5 +1,5 @@
 -- What is claimed of a run over a sink at which nothing waits is true of the sink behind it, with no sends.
-use Rattle.std.proofs.Common.{◌≡◌, ◌⊎◌, ℕ, Bool, true, false, List, Option, None, Some, ap, refl, inl, inr}
+use Rattle.std.proofs.Common.{◌≡◌, ◌⊎◌, ℕ, Bool, true, false, List, Option, None, Some, ap, refl, subst, sym, inl, inr}
 use Rattle.retro_io.specs.declared.direct_sink.DirectSink.{DirectSink}
 use Rattle.retro_io.specs.declared.sink.Sink as sinks
 use Rattle.retro_io.specs.declared.source.Source as sources
@@ -14,9 +14,11 @@ use Rattle.retro_cli.specs.declared.status.Status.TheVariants as statuses
 use Rattle.retro_cli.specs.Audience.{Audience, followed}
 use Rattle.retro_cli.specs.Delivery.{Arrives, IsCutOff}
 use Rattle.retro_cli.specs.Ends.{Answers, EndsAfterLine, EndsAtSend, EndsAtSink, ScriptStands}
-use Rattle.retro_cli.specs.FollowedProgram.{RunsBy}
+use Rattle.retro_cli.specs.FollowedProgram.{RunsBy, RunsFollowed}
+use Rattle.retro_cli.specs.Forms.{form_of, is_follow}
 use Rattle.retro_cli.specs.Output.{Answering, alone}
-use Rattle.retro_cli.specs.Program.{AnswersScript, JudgesEvidence, Runs, SumsUp}
+use Rattle.retro_cli.specs.Program.{AnswersScript, JudgesEvidence, Runs, RunsAlone, SumsUp}
+use Rattle.retro_cli.specs.Promise.{KeepsPromise}
 use Rattle.retro_cli.specs.Summary.{summary}
 use Rattle.retro_cli.specs.Unsent.{EndsUnsent, EndsUnsentBy}
 
@@ -123,21 +125,21 @@ module _ {S K : Type 0} (I : sources.Ghosts S) (G : sinks.Ghosts K) (source sour
   summary_reference kind lines start statuses.NoMemory known p = ap (λ s. reference_behind s) (p.nothing tt).1
   summary_reference kind lines start statuses.TooLong known p = ap (λ s. reference_behind s) (p.nothing tt).1
 
-  pub runs_behind : (status : Status) (form : Option Form) → Runs I (direct G) direct_sends source source' a b status form
+  runs_behind : (status : Status) (form : Option Form) → Runs I (direct G) direct_sends source source' a b status form
       → Runs I G no_sends source source' (sink_behind a) (sink_behind b) status form
   runs_behind status None p = (p.0, ap (λ s. sink_behind s) p.1)
   runs_behind status (Some Run) p = script_behind alone status p
   runs_behind status (Some Check) p = evidence_behind status p
   runs_behind status (Some (Gen kind lines start)) p = summary_behind kind lines start status p
 
-  pub runs_unsent : (status : Status) (form : Option Form) → Runs I (direct G) direct_sends source source' a b status form → status ≡ statuses.WriteFault
+  runs_unsent : (status : Status) (form : Option Form) → Runs I (direct G) direct_sends source source' a b status form → status ≡ statuses.WriteFault
       → EndsUnsent I G source source' (sink_behind a) (sink_behind b) form
   runs_unsent status None p e = tt
   runs_unsent status (Some Run) p e = script_unsent alone status p e
   runs_unsent status (Some Check) p e = tt
   runs_unsent status (Some (Gen kind lines start)) p e = tt
 
-  pub runs_reference : (status : Status) (form : Option Form) → (status ≡ statuses.Words → form ≡ None) → Runs I (direct G) direct_sends source source' a b status form
+  runs_reference : (status : Status) (form : Option Form) → (status ≡ statuses.Words → form ≡ None) → Runs I (direct G) direct_sends source source' a b status form
       → reference_behind b ≡ reference_behind a
   runs_reference status None known p = ap (λ s. reference_behind s) p.1
   runs_reference status (Some Run) known p = stands_reference alone status p.stands
@@ -146,17 +148,64 @@ module _ {S K : Type 0} (I : sources.Ghosts S) (G : sinks.Ghosts K) (source sour
       summary_reference kind lines start status (λ e. no_form (Gen kind lines start) (known e)) p
 
   module _ (audience : Audience) where
-    pub by_words_behind : (status : Status) (follow : Bool) (form : Option Form) → RunsBy I (direct G) direct_sends audience source source' a b status follow form
+    by_words_behind : (status : Status) (follow : Bool) (form : Option Form) → RunsBy I (direct G) direct_sends audience source source' a b status follow form
         → RunsBy I G no_sends audience source source' (sink_behind a) (sink_behind b) status follow form
     by_words_behind status true form p = script_behind (followed audience) status p
     by_words_behind status false form p = runs_behind status form p
 
-    pub by_words_unsent : (status : Status) (follow : Bool) (form : Option Form) → RunsBy I (direct G) direct_sends audience source source' a b status follow form
+    by_words_unsent : (status : Status) (follow : Bool) (form : Option Form) → RunsBy I (direct G) direct_sends audience source source' a b status follow form
         → status ≡ statuses.WriteFault → EndsUnsentBy I G source source' (sink_behind a) (sink_behind b) audience follow form
     by_words_unsent status true form p e = script_unsent (followed audience) status p e
     by_words_unsent status false form p e = runs_unsent status form p e
 
-    pub by_words_reference : (status : Status) (follow : Bool) (form : Option Form) → (status ≡ statuses.Words → (follow ≡ false) × (form ≡ None))
+    by_words_reference : (status : Status) (follow : Bool) (form : Option Form) → (status ≡ statuses.Words → (follow ≡ false) × (form ≡ None))
         → RunsBy I (direct G) direct_sends audience source source' a b status follow form → reference_behind b ≡ reference_behind a
     by_words_reference status true form known p = stands_reference (followed audience) status p.stands
     by_words_reference status false form known p = runs_reference status form (λ e. (known e).1) p
+
+  -- so the promise that was kept over the outer sink is kept of the one behind it
+  promise_behind : (status : Status) (stands here known unknown : Type 0) → (stands → here)
+      → KeepsPromise I (direct G) source source' a b status stands known unknown
+      → KeepsPromise I G source source' (sink_behind a) (sink_behind b) status here known unknown
+  promise_behind status stands here known unknown so p = record {
+    form = so p.form;
+    words = p.words;
+    too_long = p.too_long;
+    complete = p.complete;
+    source_faults = p.source_faults;
+    sink_faults = p.sink_faults;
+  }
+
+  module _ (status : Status) (words : List (List ℕ)) (sink sink' : K) (first : sink_behind a ≡ sink) (last : sink' ≡ sink_behind b) where
+    -- what is said of the sinks behind is said of these
+    of_these : (P : K → K → Type 0) → P (sink_behind a) (sink_behind b) → P sink sink'
+    of_these P holds = subst (λ s. P s sink') first (subst (λ s. P (sink_behind a) s) (sym last) holds)
+
+    pub alone_behind : RunsAlone I (direct G) direct_sends source source' a b status words → RunsAlone I G no_sends source source' sink sink' status words
+    alone_behind p =
+        of_these (λ s s'. RunsAlone I G no_sends source source' s s' status words) (promise_behind status _ _ _ _ (runs_behind status (form_of words)) p)
+
+    pub alone_unsent : RunsAlone I (direct G) direct_sends source source' a b status words → status ≡ statuses.WriteFault
+        → EndsUnsent I G source source' sink sink' (form_of words)
+    alone_unsent p e = of_these (λ s s'. EndsUnsent I G source source' s s' (form_of words)) (runs_unsent status (form_of words) p.form e)
+
+    module _ (audience : Audience) where
+      pub followed_behind : RunsFollowed I (direct G) direct_sends audience source source' a b status words
+          → RunsFollowed I G no_sends audience source source' sink sink' status words
+      followed_behind p =
+          of_these (λ s s'. RunsFollowed I G no_sends audience source source' s s' status words)
+          (promise_behind status _ _ _ _ (by_words_behind audience status (is_follow words) (form_of words)) p)
+
+      pub followed_unsent : RunsFollowed I (direct G) direct_sends audience source source' a b status words → status ≡ statuses.WriteFault
+          → EndsUnsentBy I G source source' sink sink' audience (is_follow words) (form_of words)
+      followed_unsent p e =
+          of_these (λ s s'. EndsUnsentBy I G source source' s s' audience (is_follow words) (form_of words))
+          (by_words_unsent audience status (is_follow words) (form_of words) p.form e)
+
+  pub alone_reference : (status : Status) (words : List (List ℕ)) → RunsAlone I (direct G) direct_sends source source' a b status words
+      → reference_behind b ≡ reference_behind a
+  alone_reference status words p = runs_reference status (form_of words) p.words.0 p.form
+
+  pub followed_reference : (status : Status) (words : List (List ℕ)) (audience : Audience) → RunsFollowed I (direct G) direct_sends audience source source' a b status words
+      → reference_behind b ≡ reference_behind a
+  followed_reference status words audience p = by_words_reference audience status (is_follow words) (form_of words) p.words.0 p.form

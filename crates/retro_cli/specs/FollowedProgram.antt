@@ -8,6 +8,7 @@ use Rattle.retro_cli.specs.declared.status.Status.{Status}
 use Rattle.retro_cli.specs.Audience.{Audience, followed}
 use Rattle.retro_cli.specs.Forms.{form_of, is_follow}
 use Rattle.retro_cli.specs.Program.{AnswersScript, Runs}
+use Rattle.retro_cli.specs.Promise.{KeepsPromise}
 
 -- the most followers of a run
 abbrev pub most_followers : ℕ
@@ -29,5 +30,6 @@ module _ {S K : Type 0} (I : sources.Ghosts S) (O : sinks.Ghosts K) (sends : Sen
   RunsBy true form = AnswersScript I O sends source source' sink sink' status (followed audience)
   RunsBy false form = Runs I O sends source source' sink sink' status form
 
-  pub record RunsFollowed (words : List (List ℕ)) : Type 0 where
-    pub by_words : RunsBy (is_follow words) (form_of words)
+  -- all that it promises
+  abbrev pub RunsFollowed : List (List ℕ) → Type 0
+  RunsFollowed words = KeepsPromise I O source source' sink sink' status (RunsBy (is_follow words) (form_of words)) (HasForm words) (HasNoForm words)

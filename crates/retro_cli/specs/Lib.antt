@@ -14,6 +14,8 @@ pub mod Delivery
 pub mod Judging
 pub mod Verdicts
 pub mod Summary
+pub mod Causes
+pub mod Promise
 pub mod Program
 pub mod Events
 pub mod Audience

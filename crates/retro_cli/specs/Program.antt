@@ -1,5 +1,5 @@
 -- What is claimed of a run of the program, by the form of its words.
-use Rattle.std.specs.Prelude.{◌≡◌, ℕ, true, Option, None, Some, IfSome, option_map}
+use Rattle.std.specs.Prelude.{◌≡◌, ℕ, true, List, Option, None, Some, IfSome, IsSome, option_map}
 use Rattle.retro_base.specs.declared.kind.Kind.{Kind}
 use Rattle.retro_io.specs.declared.sink.Sink as sinks
 use Rattle.retro_io.specs.declared.source.Source as sources
@@ -10,8 +10,10 @@ use Rattle.retro_cli.specs.declared.status.Status.{Status}
 use Rattle.retro_cli.specs.declared.status.Status.TheVariants as statuses
 use Rattle.retro_cli.specs.Delivery.{Arrives, IsCutOff}
 use Rattle.retro_cli.specs.Ends.{ScriptStands}
+use Rattle.retro_cli.specs.Forms.{form_of}
 use Rattle.retro_cli.specs.Judging.{is_refusal, judged_output, judgement_of}
 use Rattle.retro_cli.specs.Output.{Answering, alone}
+use Rattle.retro_cli.specs.Promise.{KeepsPromise}
 use Rattle.retro_cli.specs.Run.{AppendsWholePrefix, EndsBetweenLines, HasAnswered, status_of}
 use Rattle.retro_cli.specs.Summary.{summary}
 
@@ -43,3 +45,7 @@ module _ {S K : Type 0} (I : sources.Ghosts S) (O : sinks.Ghosts K) (sends : Sen
   Runs (Some Run) = AnswersScript alone
   Runs (Some Check) = JudgesEvidence
   Runs (Some (Gen kind lines start)) = SumsUp kind lines start
+
+  -- all that a run promises that nobody follows
+  abbrev pub RunsAlone : List (List ℕ) → Type 0
+  RunsAlone words = KeepsPromise I O source source' sink sink' status (Runs (form_of words)) (IsSome (form_of words)) (form_of words ≡ None)

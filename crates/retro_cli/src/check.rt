@@ -1,12 +1,12 @@
 //! Evidence is judged, up to the end of the input.
 
-ghost use Rattle.std.specs.Prelude.{◌≡◌, ◌≤◌, ◌<◌, ◌-◌, ◌+◌, ◌↔◌, [], false, true, IfOk, IfSome, IsErrOf, OnOk, option_map};
+ghost use Rattle.std.specs.Prelude.{◌≡◌, ◌≤◌, ◌+◌, ◌↔◌, [], false, true, IfOk, IfSome, IsErrOf, OnOk, option_map};
 ghost use Rattle.retro_base.specs.Limits.{most_bytes};
-ghost use Rattle.retro_io.specs.Faults.{CountsFaults, last_count};
+ghost use Rattle.retro_io.specs.Faults.{CountsFaults};
 ghost use Rattle.retro_io.specs.LineReader.{MovesOn, has_failed, limit_of, rest_of, source_of, taken};
 ghost use Rattle.retro_cli.specs.Delivery.{StandsAt};
 ghost use Rattle.retro_cli.specs.Judging.{is_refusal, judged_output, judgement_after, judgement_of};
-ghost use Rattle.retro_cli.specs.Run.{MayBeTooLong};
+ghost use Rattle.retro_cli.specs.Causes.{HasCause};
 ghost use Rattle.retro_cli.specs.Stop.{stops_at_read, stops_at_write};
 
 use crate::MAX_BYTES;
@@ -48,10 +48,7 @@ pub(crate) fn run_check<S: Source, K: SendingSink>(
     ensures ended { OnOk result (S.ended source.new ≡ true) }
     ensures stands { StandsAt ⟦<K as Sink>⟧ K.sends (option_map judged_output (S.left source.old)) sink.old sink.new result }
     ensures refusal { IfOk result (λ refused. IfSome (S.left source.old) (λ bytes. refused ≡ is_refusal (judgement_of bytes))) }
-    ensures source_faults { CountsFaults (stops_at_read result) (S.faults source.old) (S.faults source.new) }
-    ensures sink_faults { CountsFaults (stops_at_write result) (K.faults sink.old) (K.faults sink.new) }
-    ensures too_long { S.taken source.new < last_count → (IsErrOf result Stop.TooLong ↔ (most_bytes < S.taken source.new - S.taken source.old)) }
-    ensures longer { IsErrOf result Stop.TooLong → MayBeTooLong (S.left source.old) }
+    ensures cause { HasCause ⟦<S as Source>⟧ ⟦<K as Sink>⟧ source.old source.new sink.old sink.new result }
     ensures sent { K.waiting sink.old ≡ [] → stops_at_write result ≡ false → K.waiting sink.new ≡ [] }
 {
     let buffer = LineBuffer::new(alloc)?;

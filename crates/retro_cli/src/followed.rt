@@ -1,13 +1,12 @@
 //! A whole run of a script, with followers or without.
 
-ghost use Rattle.std.specs.Prelude.{◌≡◌, [], ◌-◌, ◌<◌, ◌↔◌, Err, false, true, map, IfErr, IfOk, IsErrOf, OnOk};
-ghost use Rattle.retro_base.specs.Limits.{most_bytes};
-ghost use Rattle.retro_io.specs.Faults.{CountsFaults, last_count};
+ghost use Rattle.std.specs.Prelude.{◌≡◌, [], Err, false, true, map, IfErr, IfOk, OnOk};
 ghost use Rattle.retro_io.specs.Flushes.{StaysUnflushed};
 ghost use Rattle.retro_cli.specs.Audience.{audience_by, audience_of, followed};
 ghost use Rattle.retro_cli.specs.Ends.{ScriptStands};
-ghost use Rattle.retro_cli.specs.Run.{AppendsWhole, MatchesRefusal, MayBeTooLong};
-ghost use Rattle.retro_cli.specs.Stop.{StopsReading, status_after, stops_at_read, stops_at_write};
+ghost use Rattle.retro_cli.specs.Causes.{HasCause};
+ghost use Rattle.retro_cli.specs.Run.{AppendsWhole, MatchesRefusal};
+ghost use Rattle.retro_cli.specs.Stop.{StopsReading, status_after, stops_at_write};
 
 use crate::deliver::send;
 use crate::follow::write_reports;
@@ -31,10 +30,7 @@ fn answer_and_report<S: Source, K: SendingSink>(
     ensures unflushed { OnOk result (StaysUnflushed ⟦<K as Sink>⟧ K.sends sink.old sink.new) }
     ensures stands { IfErr result (λ stop. ScriptStands ⟦<S as Source>⟧ ⟦<K as Sink>⟧ K.sends (followed (audience_by report_after followers.old))
         source.old source.new sink.old sink.new (status_after (Err stop))) }
-    ensures source_faults { CountsFaults (stops_at_read result) (S.faults source.old) (S.faults source.new) }
-    ensures sink_faults { CountsFaults (stops_at_write result) (K.faults sink.old) (K.faults sink.new) }
-    ensures too_long { S.taken source.new < last_count → (IsErrOf result Stop.TooLong ↔ (most_bytes < S.taken source.new - S.taken source.old)) }
-    ensures longer { IsErrOf result Stop.TooLong → MayBeTooLong (S.left source.old) }
+    ensures cause { HasCause ⟦<S as Source>⟧ ⟦<K as Sink>⟧ source.old source.new sink.old sink.new result }
     ensures sent { IfErr result (λ stop. StopsReading stop → K.waiting sink.new ≡ []) }
 {
     let refused = answer_source(alloc, source, followers, sink)?;
@@ -52,10 +48,7 @@ pub(crate) fn follow_script<S: Source, K: SendingSink>(
 ) -> Result<bool, Stop>
     ensures stands { ScriptStands ⟦<S as Source>⟧ ⟦<K as Sink>⟧ K.sends (followed (audience_by report_after followers.old))
         source.old source.new sink.old sink.new (status_after result) }
-    ensures source_faults { CountsFaults (stops_at_read result) (S.faults source.old) (S.faults source.new) }
-    ensures sink_faults { CountsFaults (stops_at_write result) (K.faults sink.old) (K.faults sink.new) }
-    ensures too_long { S.taken source.new < last_count → (IsErrOf result Stop.TooLong ↔ (most_bytes < S.taken source.new - S.taken source.old)) }
-    ensures longer { IsErrOf result Stop.TooLong → MayBeTooLong (S.left source.old) }
+    ensures cause { HasCause ⟦<S as Source>⟧ ⟦<K as Sink>⟧ source.old source.new sink.old sink.new result }
     ensures sent { K.waiting sink.old ≡ [] → stops_at_write result ≡ false → K.waiting sink.new ≡ [] }
 {
     let answered = answer_and_report(alloc, source, followers, sink);
@@ -82,10 +75,7 @@ pub(crate) fn follow_from_start<S: Source, K: SendingSink>(
 ) -> Result<bool, Stop>
     ensures stands { ScriptStands ⟦<S as Source>⟧ ⟦<K as Sink>⟧ K.sends (followed (audience_of (map (λ f. report_after f) followers.items)))
         source.old source.new sink.old sink.new (status_after result) }
-    ensures source_faults { CountsFaults (stops_at_read result) (S.faults source.old) (S.faults source.new) }
-    ensures sink_faults { CountsFaults (stops_at_write result) (K.faults sink.old) (K.faults sink.new) }
-    ensures too_long { S.taken source.new < last_count → (IsErrOf result Stop.TooLong ↔ (most_bytes < S.taken source.new - S.taken source.old)) }
-    ensures longer { IsErrOf result Stop.TooLong → MayBeTooLong (S.left source.old) }
+    ensures cause { HasCause ⟦<S as Source>⟧ ⟦<K as Sink>⟧ source.old source.new sink.old sink.new result }
     ensures sent { K.waiting sink.old ≡ [] → stops_at_write result ≡ false → K.waiting sink.new ≡ [] }
 {
     let mut numbered = all_left(alloc, followers)?;

@@ -1,9 +1,9 @@
 //! The program, from the bytes in to the bytes out: `run` reads a script from a source and writes the answers
 //! to its lines to a sink; or it judges the evidence of one; or it sums up a generated script.
 //!
-//! `run` carries the theorem of the program, by the form of the words of its command line (`specs/Program.antt`). Where it
-//! ends with 0 or 1, the input was read to its end, and exactly the output of the script was appended, or the judgement of its
-//! lines. The output is defined in `specs/Output.antt` over the whole list of lines: what the bench makes of one line after
+//! `run` carries the theorem of the program (`specs/Promise.antt`), by the form of the words of its command line
+//! (`specs/Program.antt`). Where it ends with 0 or 1, the input was read to its end, and exactly the output of the script
+//! was appended, or the judgement of its lines. The output is defined in `specs/Output.antt` over the whole list of lines: what the bench makes of one line after
 //! another, by the workbench's definitions; the loop only follows it. Each other status has its cause in a clause, so that
 //! without a fault every input is answered, as long as memory lasts.
 //!
@@ -19,7 +19,7 @@
 //! follows is answered by the same loop, with no followers. A line
 //! `mute I` outside a block is answered by that follower, which then hears and reports nothing more; the others keep their numbers.
 //!
-//! - `program`: the top calls `run`, `run_followed` and `run_sending`. `direct`: the first two over any sink, by the loops that send.
+//! - `program`: the top calls `run`, `run_followed` and `run_sending`, of which the first two run over any sink by the loops that send.
 //! - `form`, `words`, `status`, `stop`: the words of the command line, and how a run ends.
 //! - `script`, `sent_reader`: a script is answered, line by line. `follow`: what followers are handed, and their reports.
 //!   `mute`: who is left, and the line that lets one go. `followed`: a whole run of a script, with followers or without.
@@ -31,7 +31,6 @@
 
 mod check;
 mod deliver;
-mod direct;
 mod follow;
 mod followed;
 mod form;

@@ -1,19 +1,16 @@
 //! The program, over any streams.
 
-ghost use Rattle.std.specs.Prelude.{◌≡◌, ◌-◌, ◌<◌, ◌≤◌, ◌↔◌, [], false, length, map, IsSome, None};
-ghost use Rattle.retro_base.specs.Limits.{most_bytes};
-ghost use Rattle.retro_io.specs.Faults.{CountsFaults, HasRisen, last_count};
+ghost use Rattle.std.specs.Prelude.{◌≡◌, ◌≤◌, [], false, length, map};
 ghost use Rattle.retro_io.specs.Flushes.{no_sends};
 ghost use Rattle.retro_cli.specs.Audience.{audience_of};
-ghost use Rattle.retro_cli.specs.FollowedProgram.{HasForm, HasNoForm, RunsFollowed, most_followers};
+ghost use Rattle.retro_cli.specs.FollowedProgram.{RunsFollowed, most_followers};
 ghost use Rattle.retro_cli.specs.Forms.{form_of, is_follow};
-ghost use Rattle.retro_cli.specs.Program.{Runs};
-ghost use Rattle.retro_cli.specs.Run.{EndsWithoutFault, is_read_fault, is_write_fault};
+ghost use Rattle.retro_cli.specs.Program.{RunsAlone};
+ghost use Rattle.retro_cli.specs.Run.{is_write_fault};
 ghost use Rattle.retro_cli.specs.Stop.{status_after};
 ghost use Rattle.retro_cli.specs.Unsent.{EndsUnsent, EndsUnsentBy};
 
 use crate::check::run_check;
-use crate::direct::{follow_direct, run_direct};
 use crate::followed::{follow_from_start, follow_script};
 use crate::form::{Form, form_of, is_follow};
 use crate::generated::run_generated;
@@ -22,32 +19,20 @@ use crate::{Status, Words};
 use followers::Follower;
 use retro_io::{DirectSink, SendingSink, Sink, Source};
 use std::alloc::Global;
-use std::mem;
 
 /// Runs the program. With the word `run` it reads a script from the source and writes the answer to each line to the
 /// sink, before it reads the next one. With `check` it reads lines of evidence and writes their judgement; with
 /// `gen KIND N START` it reads nothing, answers a generated script and writes what it comes to. With other words it reads
 /// and writes nothing.
 pub fn run<S: Source, K: Sink>(alloc: Global, words: &Words, source: &mut S, sink: &mut K) -> Status
-    // What stands at each status, by the form of the words: the output of the script, the judgement or the summary.
-    ensures form { Runs ⟦<S as Source>⟧ ⟦<K as Sink>⟧ no_sends source.old source.new sink.old sink.new result (form_of words.now) }
+    // What stands at each status, when each comes, completeness, and the counts of faults: the parts of `KeepsPromise`.
+    ensures promise { RunsAlone ⟦<S as Source>⟧ ⟦<K as Sink>⟧ no_sends source.old source.new sink.old sink.new result words.now }
     // At a fault of the sink, less than all of it at a write that failed, and all of it only at a flush that failed.
     ensures fault { result ≡ Status.WriteFault
         → EndsUnsent ⟦<S as Source>⟧ ⟦<K as Sink>⟧ source.old source.new sink.old sink.new (form_of words.now) }
-    // When each other status comes.
-    ensures words { (result ≡ Status.Words) ↔ (form_of words.now ≡ None) }
-    ensures too_long { S.taken source.new < last_count →
-        ((result ≡ Status.TooLong) ↔ (most_bytes < S.taken source.new - S.taken source.old)) }
-    // Completeness: without a fault there is no other end than an output, out of memory, or an input that is too long.
-    ensures complete { IsSome (form_of words.now)
-        → (HasRisen (S.faults source.old) (S.faults source.new) → ⊥) → (HasRisen (K.faults sink.old) (K.faults sink.new) → ⊥)
-        → EndsWithoutFault (S.left source.old) result }
-    // The source's count of faults rises at a failed read, the sink's at a failed write or flush, and neither falls.
-    ensures source_faults { CountsFaults (is_read_fault result) (S.faults source.old) (S.faults source.new) }
-    ensures sink_faults { CountsFaults (is_write_fault result) (K.faults sink.old) (K.faults sink.new) }
 {
     let mut direct = DirectSink::new(sink);
-    let status = run_direct(alloc, words, source, &mut direct);
+    let status = run_by_form(alloc, words, source, &mut direct);
     // Its clause says what became of the sink.
     let _sink = direct.into_inner();
     status
@@ -64,24 +49,15 @@ pub fn run_followed<S: Source, K: Sink>(
     followers: Vec<Box<dyn Follower>>,
 ) -> Status
     requires { length followers.items ≤ most_followers }
-    // What stands at each status: of a followed run the output and the reports, else what a run leaves.
-    ensures form { RunsFollowed ⟦<S as Source>⟧ ⟦<K as Sink>⟧ no_sends (audience_of (map (λ f. report_after f) followers.items))
+    // As of a run, but that a followed run leaves its output and the reports.
+    ensures promise { RunsFollowed ⟦<S as Source>⟧ ⟦<K as Sink>⟧ no_sends (audience_of (map (λ f. report_after f) followers.items))
         source.old source.new sink.old sink.new result words.now }
     ensures fault { result ≡ Status.WriteFault
         → EndsUnsentBy ⟦<S as Source>⟧ ⟦<K as Sink>⟧ source.old source.new sink.old sink.new (audience_of (map (λ f. report_after f) followers.items))
         (is_follow words.now) (form_of words.now) }
-    // When each other status comes, as of a run.
-    ensures words { (result ≡ Status.Words) ↔ HasNoForm words.now }
-    ensures too_long { S.taken source.new < last_count →
-        ((result ≡ Status.TooLong) ↔ (most_bytes < S.taken source.new - S.taken source.old)) }
-    ensures complete { HasForm words.now
-        → (HasRisen (S.faults source.old) (S.faults source.new) → ⊥) → (HasRisen (K.faults sink.old) (K.faults sink.new) → ⊥)
-        → EndsWithoutFault (S.left source.old) result }
-    ensures source_faults { CountsFaults (is_read_fault result) (S.faults source.old) (S.faults source.new) }
-    ensures sink_faults { CountsFaults (is_write_fault result) (K.faults sink.old) (K.faults sink.new) }
 {
     let mut direct = DirectSink::new(sink);
-    let status = follow_direct(alloc, words, source, &mut direct, followers);
+    let status = run_sending(alloc, words, source, &mut direct, followers);
     // Its clause says what became of the sink.
     let _sink = direct.into_inner();
     status
@@ -97,69 +73,26 @@ pub fn run_sending<S: Source, K: SendingSink>(
     followers: Vec<Box<dyn Follower>>,
 ) -> Status
     requires { length followers.items ≤ most_followers }
-    ensures form { RunsFollowed ⟦<S as Source>⟧ ⟦<K as Sink>⟧ K.sends (audience_of (map (λ f. report_after f) followers.items))
+    ensures promise { RunsFollowed ⟦<S as Source>⟧ ⟦<K as Sink>⟧ K.sends (audience_of (map (λ f. report_after f) followers.items))
         source.old source.new sink.old sink.new result words.now }
-    // When each other status comes, as of a run.
-    ensures words { (result ≡ Status.Words) ↔ HasNoForm words.now }
-    ensures too_long { S.taken source.new < last_count →
-        ((result ≡ Status.TooLong) ↔ (most_bytes < S.taken source.new - S.taken source.old)) }
-    ensures complete { HasForm words.now
-        → (HasRisen (S.faults source.old) (S.faults source.new) → ⊥) → (HasRisen (K.faults sink.old) (K.faults sink.new) → ⊥)
-        → EndsWithoutFault (S.left source.old) result }
-    ensures source_faults { CountsFaults (is_read_fault result) (S.faults source.old) (S.faults source.new) }
-    ensures sink_faults { CountsFaults (is_write_fault result) (K.faults sink.old) (K.faults sink.new) }
     // Where nothing waits at the sink before, nothing waits where the run ends, unless the sink failed.
     ensures sent { K.waiting sink.old ≡ [] → is_write_fault result ≡ false → K.waiting sink.new ≡ [] }
 {
-    let mut followers = followers;
-    run_by_words(alloc, words, source, sink, &mut followers)
-}
-
-/// The same. With other words than those of a followed run the followers are left as they were.
-fn run_by_words<S: Source, K: SendingSink>(
-    alloc: Global,
-    words: &Words,
-    source: &mut S,
-    sink: &mut K,
-    followers: &mut Vec<Box<dyn Follower>>,
-) -> Status
-    ensures form { RunsFollowed ⟦<S as Source>⟧ ⟦<K as Sink>⟧ K.sends (audience_of (map (λ f. report_after f) followers.old.items))
-        source.old source.new sink.old sink.new result words.now }
-    ensures left { is_follow words.now ≡ false → map (λ f. report_after f) followers.new.items ≡ map (λ f. report_after f) followers.old.items }
-    ensures words { (result ≡ Status.Words) ↔ HasNoForm words.now }
-    ensures too_long { S.taken source.new < last_count →
-        ((result ≡ Status.TooLong) ↔ (most_bytes < S.taken source.new - S.taken source.old)) }
-    ensures complete { HasForm words.now
-        → (HasRisen (S.faults source.old) (S.faults source.new) → ⊥) → (HasRisen (K.faults sink.old) (K.faults sink.new) → ⊥)
-        → EndsWithoutFault (S.left source.old) result }
-    ensures source_faults { CountsFaults (is_read_fault result) (S.faults source.old) (S.faults source.new) }
-    ensures sink_faults { CountsFaults (is_write_fault result) (K.faults sink.old) (K.faults sink.new) }
-    ensures sent { K.waiting sink.old ≡ [] → is_write_fault result ≡ false → K.waiting sink.new ≡ [] }
-{
     if is_follow(words) {
-        let all = mem::replace(followers, Vec::new(alloc));
-        status_after(follow_from_start(alloc, source, all, sink))
+        status_after(follow_from_start(alloc, source, followers, sink))
     } else {
         run_by_form(alloc, words, source, sink)
     }
 }
 
 /// Runs the program as `run` does, and sends what waits.
-pub(crate) fn run_by_form<S: Source, K: SendingSink>(
+fn run_by_form<S: Source, K: SendingSink>(
     alloc: Global,
     words: &Words,
     source: &mut S,
     sink: &mut K,
 ) -> Status
-    ensures form { Runs ⟦<S as Source>⟧ ⟦<K as Sink>⟧ K.sends source.old source.new sink.old sink.new result (form_of words.now) }
-    ensures words { (result ≡ Status.Words) ↔ (form_of words.now ≡ None) }
-    ensures too_long { S.taken source.new < last_count →
-        ((result ≡ Status.TooLong) ↔ (most_bytes < S.taken source.new - S.taken source.old)) }
-    ensures complete { IsSome (form_of words.now)
-        → (HasRisen (S.faults source.old) (S.faults source.new) → ⊥) → (HasRisen (K.faults sink.old) (K.faults sink.new) → ⊥)
-        → EndsWithoutFault (S.left source.old) result }
-    ensures source_faults { CountsFaults (is_read_fault result) (S.faults source.old) (S.faults source.new) }
-    ensures sink_faults { CountsFaults (is_write_fault result) (K.faults sink.old) (K.faults sink.new) }
+    ensures promise { RunsAlone ⟦<S as Source>⟧ ⟦<K as Sink>⟧ K.sends source.old source.new sink.old sink.new result words.now }
     ensures sent { K.waiting sink.old ≡ [] → is_write_fault result ≡ false → K.waiting sink.new ≡ [] }
 {
     match form_of(words) {

@@ -1,8 +1,8 @@
 //! A script is answered, line by line.
 
-ghost use Rattle.std.specs.Prelude.{◌≡◌, [], ◌+◌, ◌-◌, ◌<◌, ◌↔◌, ◌≤◌, false, true, IsTrue, IfOk, IfErr, OnErr, OnOk, IsErrOf, length};
+ghost use Rattle.std.specs.Prelude.{◌≡◌, [], ◌+◌, ◌-◌, ◌↔◌, ◌≤◌, false, true, IsTrue, IfOk, IfErr, OnErr, OnOk, IsErrOf, length};
 ghost use Rattle.retro_base.specs.Limits.{longest_line, most_bytes};
-ghost use Rattle.retro_io.specs.Faults.{CountsFaults, last_count};
+ghost use Rattle.retro_io.specs.Faults.{CountsFaults};
 ghost use Rattle.retro_io.specs.Sink.{Appends, AppendsProperPrefix};
 ghost use Rattle.retro_io.specs.Flushes.{EndsWithFailedSend, EndsWithFailedWrite, StaysUnflushed};
 ghost use Rattle.retro_io.specs.LineReader.{MovesOn, given, has_failed, held, limit_of, rest_of, source_of, taken};
@@ -11,7 +11,8 @@ ghost use Rattle.retro_cli.specs.Ends.{LinesStand};
 ghost use Rattle.retro_cli.specs.Audience.{HaveFollowed, audience_by, followed, follows_to, hears};
 ghost use Rattle.retro_cli.specs.Events.{events_among};
 ghost use Rattle.retro_cli.specs.OutOfMemory.{AppendsAnswersOfEarlier};
-ghost use Rattle.retro_cli.specs.Run.{AppendsOutput, MayBeTooLong, MatchesRefusal};
+ghost use Rattle.retro_cli.specs.Causes.{HasCause};
+ghost use Rattle.retro_cli.specs.Run.{AppendsOutput, MatchesRefusal};
 ghost use Rattle.retro_cli.specs.Stop.{StopsReading, stops_at_read, stops_at_write};
 ghost use Rattle.workbench.specs.Reaction.{closing, reacts_to};
 
@@ -187,10 +188,7 @@ pub(crate) fn answer_source<S: Source, K: SendingSink>(
     ensures stands { IfErr result (LinesStand ⟦<K as Sink>⟧ K.sends (followed (audience_by report_after followers.old)) (S.left source.old) (S.left source.new) sink.old sink.new most_bytes) }
     ensures earlier { IsErrOf result Stop.NoMemory → AppendsAnswersOfEarlier ⟦<S as Source>⟧ (followed (audience_by report_after followers.old)) source.old source.new (S.left source.old) (S.left source.new)
         (K.written sink.old) (K.written sink.new) }
-    ensures source_faults { CountsFaults (stops_at_read result) (S.faults source.old) (S.faults source.new) }
-    ensures sink_faults { CountsFaults (stops_at_write result) (K.faults sink.old) (K.faults sink.new) }
-    ensures too_long { S.taken source.new < last_count → (IsErrOf result Stop.TooLong ↔ (most_bytes < S.taken source.new - S.taken source.old)) }
-    ensures longer { IsErrOf result Stop.TooLong → MayBeTooLong (S.left source.old) }
+    ensures cause { HasCause ⟦<S as Source>⟧ ⟦<K as Sink>⟧ source.old source.new sink.old sink.new result }
     ensures sent { IfErr result (λ stop. StopsReading stop → K.waiting sink.new ≡ []) }
 {
     let buffer = LineBuffer::new(alloc)?;

@@ -14,17 +14,10 @@ returns-clause-runs g c =
       no_faults = c.in_ok-outbox.ensures.faults;
       audience = audience_of (map (λ f. (goal.Follower-dyn g (f.vtable, f.value)).report_after f.value) c.args.followers.items);
       handed_in = refl;
-      runs = c.run_sending-status.ensures.form;
-      source_faults = c.run_sending-status.ensures.source_faults;
-      sink_faults = c.run_sending-status.ensures.sink_faults;
-      complete = c.run_sending-status.ensures.complete;
-      too_long = c.run_sending-status.ensures.too_long;
+      runs = c.run_sending-status.ensures.promise;
       sent = λ succeeds. c.run_sending-status.ensures.sent c.in_ok-outbox.ensures.waiting succeeds;
       all = λ succeeds. all_is_in _ _ (c.run_sending-status.ensures.sent c.in_ok-outbox.ensures.waiting succeeds);
     }
-
-pub returns-clause-words : goal.returns-clause-words
-returns-clause-words g c = c.run_sending-status.ensures.words
 
 pub returns-clause-err : goal.returns-clause-err
 returns-clause-err g c = tt

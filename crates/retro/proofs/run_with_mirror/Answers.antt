@@ -25,6 +25,3 @@ returns-clause-runs g c =
     ap (map (λ f. (own-1.entry f.vtable).1.report_after f.value)) both
     ∙ ap (λ report. report ∷ (own-1.entry second.vtable).1.report_after second.value ∷ []) first_is ∙ ap (λ report. tally ∷ report ∷ []) second_is in
     rw (← handed_in) c.run_before.ensures.runs
-
-pub returns-clause-words : goal.returns-clause-words
-returns-clause-words g c = c.run_before.ensures.words

@@ -15,6 +15,3 @@ returns-clause-runs g c =
     let handed_in : map (λ f. (own-1.entry f.vtable).1.report_after f.value) c.push.new.self.items ≡ tally ∷ [] =
     ap (map (λ f. (own-1.entry f.vtable).1.report_after f.value)) one ∙ ap (λ report. report ∷ []) counts in
     rw (← handed_in) c.run_before.ensures.runs
-
-pub returns-clause-words : goal.returns-clause-words
-returns-clause-words g c = c.run_before.ensures.words
