@@ -1,6 +1,6 @@
 -- The rule of checkpoints at an edit, over the width, the places and the number of rows alone: where a checkpoint is made for a row that
 -- is put in, how all of them move with the rows, and which of them are left, at which width.
-use Rattle.std.specs.Prelude.{◌≡◌, ℕ, ◌+◌, ◌-◌, ◌/◌, ◌≤◌, nat_eq, nat_lt, if◌then◌else◌, true, false, List, [], ◌∷◌, ◌++◌, length, drop, map, reverse}
+use Rattle.std.specs.Prelude.{◌≡◌, ℕ, ◌+◌, ◌-◌, ◌/◌, ◌≤◌, nat_eq, nat_lt, if◌then◌else◌, true, false, List, [], ◌∷◌, ◌++◌, length, drop, map, reverse, Result, IfOk, OnOk, OnErr}
 use Rattle.retro_base.specs.Edits.{Edit, add, cut}
 use Rattle.checkpoint_full.specs.Checkpoints.{Checkpointed}
 use Rattle.checkpoint_full.specs.Widths.{least_width, made_places, settled, settled_width}
@@ -80,3 +80,12 @@ pub record MakesCheckpoints (before after : Checkpointed) : Type 0 where
   pub width : before.made ≡ false → after.width ≡ least_width (length before.rows)
   pub places : before.made ≡ false → after.places ≡ made_places after.width (length before.rows)
   pub same : before.made ≡ true → after ≡ before
+
+-- a question about the past with this answer: the kind and the rows stay; where it is answered, it is so by this answer, and the checkpoints
+-- are made; after out of memory all is as before
+pub record IsAsked {A E : Type 0} (before : Checkpointed) (answer_there : A) (result : Result A E) (after : Checkpointed) : Type 0 where
+  pub kind : after.kind ≡ before.kind
+  pub rows : after.rows ≡ before.rows
+  pub answer : IfOk result (λ answer. answer ≡ answer_there)
+  pub checkpoints : OnOk result (MakesCheckpoints before after)
+  pub err : OnErr result (after ≡ before)

@@ -10,7 +10,7 @@ ghost use Rattle.retro_base.specs.Questions.{suits};
 ghost use Rattle.retro_base.specs.Replay.{IsValid, present, state_at};
 ghost use Rattle.retro_base.specs.Timeline.{IsReplayable};
 ghost use Rattle.retro_base.specs.Visits.{OpensCounter, VisitsWithin};
-ghost use Rattle.checkpoint_full.specs.Rule.{FollowsRule, MakesCheckpoints};
+ghost use Rattle.checkpoint_full.specs.Rule.{FollowsRule, IsAsked};
 ghost use Rattle.checkpoint_full.specs.Widths.{narrowest};
 
 use crate::checkpoints::{drop_made, make, make_room};
@@ -94,11 +94,7 @@ impl<P: Partial + Drop> Full<P> {
     ) -> Result<Answer, NoMemory>
         requires within { place ≤ length self.old.rows }
         requires suited { suits question self.old.kind ≡ true }
-        ensures kind { self.new.kind ≡ self.old.kind }
-        ensures rows { self.new.rows ≡ self.old.rows }
-        ensures answer { IfOk result (λ answer. answer ≡ answer_of (state_at self.old.kind self.old.rows place) question) }
-        ensures checkpoints { OnOk result (MakesCheckpoints self.old self.new) }
-        ensures err { OnErr result (self.new ≡ self.old) }
+        ensures asked { IsAsked self.old (answer_of (state_at self.old.kind self.old.rows place) question) result self.new }
         ensures visits { self.old.made ≡ true → VisitsWithin (432 * (self.old.width + 1)) (length self.old.rows) steps.old steps.new }
     {
         if self.checkpoints.is_empty() {
@@ -134,11 +130,7 @@ impl<P: Partial + Drop> Full<P> {
         requires within { place ≤ length self.old.rows }
         requires suited { suits question self.old.kind ≡ true }
         requires counter { OpensCounter blank.name L.name blank.parts L.parts }
-        ensures kind { self.new.kind ≡ self.old.kind }
-        ensures rows { self.new.rows ≡ self.old.rows }
-        ensures answer { IfOk result (λ answer. answer ≡ answer_of (state_at self.old.kind self.old.rows place) question) }
-        ensures checkpoints { OnOk result (MakesCheckpoints self.old self.new) }
-        ensures err { OnErr result (self.new ≡ self.old) }
+        ensures asked { IsAsked self.old (answer_of (state_at self.old.kind self.old.rows place) question) result self.new }
     {
         let mut steps = Steps::<L>::new(blank);
         self.ask_past(place, question, &mut steps)
@@ -148,11 +140,7 @@ impl<P: Partial + Drop> Full<P> {
     /// where they had been made. After `NoMemory` all is as before.
     pub fn all_past(&mut self, place: u32) -> Result<Listing, NoMemory>
         requires { place ≤ length self.old.rows }
-        ensures kind { self.new.kind ≡ self.old.kind }
-        ensures rows { self.new.rows ≡ self.old.rows }
-        ensures content { IfOk result (λ listing. listing ≡ content (state_at self.old.kind self.old.rows place)) }
-        ensures checkpoints { OnOk result (MakesCheckpoints self.old self.new) }
-        ensures err { OnErr result (self.new ≡ self.old) }
+        ensures asked { IsAsked self.old (content (state_at self.old.kind self.old.rows place)) result self.new }
     {
         if self.checkpoints.is_empty() {
             let least = width_for(self.present.place());
@@ -269,22 +257,14 @@ impl<P: Partial + Drop> Retro for Full<P> {
     fn ask(&mut self, place: u32, question: Question) -> Result<Answer, NoMemory>
         requires within { place ≤ length self.old.rows }
         requires suited { suits question self.old.kind ≡ true }
-        ensures kind { self.new.kind ≡ self.old.kind }
-        ensures rows { self.new.rows ≡ self.old.rows }
-        ensures answer { IfOk result (λ answer. answer ≡ answer_of (state_at self.old.kind self.old.rows place) question) }
-        ensures checkpoints { OnOk result (MakesCheckpoints self.old self.new) }
-        ensures err { OnErr result (self.new ≡ self.old) }
+        ensures asked { IsAsked self.old (answer_of (state_at self.old.kind self.old.rows place) question) result self.new }
     {
         self.ask_uncounted::<Brand>(place, question, Blank::new(1))
     }
 
     fn all(&mut self, place: u32) -> Result<Listing, NoMemory>
         requires { place ≤ length self.old.rows }
-        ensures kind { self.new.kind ≡ self.old.kind }
-        ensures rows { self.new.rows ≡ self.old.rows }
-        ensures content { IfOk result (λ listing. listing ≡ content (state_at self.old.kind self.old.rows place)) }
-        ensures checkpoints { OnOk result (MakesCheckpoints self.old self.new) }
-        ensures err { OnErr result (self.new ≡ self.old) }
+        ensures asked { IsAsked self.old (content (state_at self.old.kind self.old.rows place)) result self.new }
     {
         self.all_past(place)
     }

@@ -1,10 +1,11 @@
 -- What an engine is seen as: the kind of the structure inside, which its variant names, its rows, and the checkpoints of a priority
 -- queue.
-use Rattle.std.specs.Prelude.{◌≡◌, ℕ, ◌≤◌, Bool, true, false, List, []}
+use Rattle.std.specs.Prelude.{◌≡◌, ℕ, ◌≤◌, Bool, true, false, List, [], Result, IfOk, OnOk, OnErr}
 use Rattle.retro_base.specs.declared.kind.Kind.{Kind}
 use Rattle.retro_base.specs.declared.kind.Kind.TheVariants as kinds
 use Rattle.retro_base.specs.declared.row.Row.{Row}
 use Rattle.checkpoint_full.specs.Checkpoints.{Checkpointed}
+use Rattle.checkpoint_full.specs.Rule.{MakesCheckpoints}
 use Rattle.engine.specs.declared.engine.Engine.{Engine}
 use Rattle.engine.specs.declared.engine.Engine.TheVariants.{Queue, Stack, Deque, Dict, Pq, Fused}
 
@@ -92,3 +93,13 @@ pub record KeepsStructure (before after : Engine) : Type 0 where
   pub fused : is_fused after ≡ is_fused before
   pub made : made_inside after ≡ made_inside before
   pub wider : width_inside before ≤ width_inside after
+
+-- a question about the past with this answer: the kind, the structure inside and the rows stay; where it is answered, it is so by this answer,
+-- and a priority queue by checkpoints has made them; after out of memory all is as before
+pub record IsAsked {A E : Type 0} (before : Engine) (answer_there : A) (result : Result A E) (after : Engine) : Type 0 where
+  pub kind : kind_inside after ≡ kind_inside before
+  pub variant : is_fused after ≡ is_fused before
+  pub rows : rows_inside after ≡ rows_inside before
+  pub answer : IfOk result (λ answer. answer ≡ answer_there)
+  pub checkpoints : is_pq before ≡ true → OnOk result (MakesCheckpoints (seen_inside before) (seen_inside after))
+  pub err : OnErr result (after ≡ before)

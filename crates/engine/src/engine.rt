@@ -11,9 +11,9 @@ ghost use Rattle.retro_base.specs.Questions.{suits};
 ghost use Rattle.retro_base.specs.Replay.{IsValid, present, state_at};
 ghost use Rattle.retro_base.specs.Timeline.{IsReplayable};
 ghost use Rattle.retro_base.specs.Visits.{OpensCounter, VisitsWithin};
-ghost use Rattle.checkpoint_full.specs.Rule.{FollowsRule, MakesCheckpoints};
+ghost use Rattle.checkpoint_full.specs.Rule.{FollowsRule};
 ghost use Rattle.pq_fusion.specs.Searches.{AskedWithin, SizedWithin};
-ghost use Rattle.engine.specs.Engine.{kind_inside, rows_inside, is_line, is_pq, is_fused, made_inside, seen_inside, width_inside, KeepsStructure};
+ghost use Rattle.engine.specs.Engine.{kind_inside, rows_inside, is_line, is_pq, is_fused, made_inside, seen_inside, width_inside, IsAsked, KeepsStructure};
 
 use bridge_pq::BridgeQueue;
 use checkpoint_full::Full;
@@ -92,18 +92,13 @@ impl Engine {
     ) -> Result<Answer, NoMemory>
         requires within { place ≤ length (rows_inside self.old) }
         requires suited { suits question (kind_inside self.old) ≡ true }
-        ensures kind { kind_inside self.new ≡ kind_inside self.old }
-        ensures variant { is_fused self.new ≡ is_fused self.old }
-        ensures rows { rows_inside self.new ≡ rows_inside self.old }
-        ensures answer { IfOk result (λ answer. answer ≡ answer_of (state_at (kind_inside self.old) (rows_inside self.old) place) question) }
+        ensures asked { IsAsked self.old (answer_of (state_at (kind_inside self.old) (rows_inside self.old) place) question) result self.new }
         ensures line { is_line self.old ≡ true → IsOk result }
         ensures line_visits { is_line self.old ≡ true → VisitsWithin 36 (length (rows_inside self.old)) steps.old steps.new }
         ensures fused { is_fused self.old ≡ true → IsOk result }
         ensures fused_visits { is_fused self.old ≡ true → AskedWithin (length (rows_inside self.old)) steps.old steps.new }
         ensures fused_size { is_fused self.old ≡ true → question ≡ Size → SizedWithin (length (rows_inside self.old)) steps.old steps.new }
-        ensures checkpoints { is_pq self.old ≡ true → OnOk result (MakesCheckpoints (seen_inside self.old) (seen_inside self.new)) }
         ensures visits { made_inside self.old ≡ true → VisitsWithin (432 * (width_inside self.old + 1)) (length (rows_inside self.old)) steps.old steps.new }
-        ensures err { OnErr result (self.new ≡ self.old) }
     {
         match self {
             Engine::Queue { inner } => Ok(inner.ask_past(place, question, steps)),
@@ -125,12 +120,7 @@ impl Engine {
         requires within { place ≤ length (rows_inside self.old) }
         requires suited { suits question (kind_inside self.old) ≡ true }
         requires counter { OpensCounter blank.name L.name blank.parts L.parts }
-        ensures kind { kind_inside self.new ≡ kind_inside self.old }
-        ensures variant { is_fused self.new ≡ is_fused self.old }
-        ensures rows { rows_inside self.new ≡ rows_inside self.old }
-        ensures answer { IfOk result (λ answer. answer ≡ answer_of (state_at (kind_inside self.old) (rows_inside self.old) place) question) }
-        ensures checkpoints { is_pq self.old ≡ true → OnOk result (MakesCheckpoints (seen_inside self.old) (seen_inside self.new)) }
-        ensures err { OnErr result (self.new ≡ self.old) }
+        ensures asked { IsAsked self.old (answer_of (state_at (kind_inside self.old) (rows_inside self.old) place) question) result self.new }
     {
         let mut steps = Steps::<L>::new(blank);
         self.ask_past(place, question, &mut steps)
@@ -244,24 +234,14 @@ impl Retro for Engine {
     fn ask(&mut self, place: u32, question: Question) -> Result<Answer, NoMemory>
         requires within { place ≤ length (rows_inside self.old) }
         requires suited { suits question (kind_inside self.old) ≡ true }
-        ensures kind { kind_inside self.new ≡ kind_inside self.old }
-        ensures variant { is_fused self.new ≡ is_fused self.old }
-        ensures rows { rows_inside self.new ≡ rows_inside self.old }
-        ensures answer { IfOk result (λ answer. answer ≡ answer_of (state_at (kind_inside self.old) (rows_inside self.old) place) question) }
-        ensures checkpoints { is_pq self.old ≡ true → OnOk result (MakesCheckpoints (seen_inside self.old) (seen_inside self.new)) }
-        ensures err { OnErr result (self.new ≡ self.old) }
+        ensures asked { IsAsked self.old (answer_of (state_at (kind_inside self.old) (rows_inside self.old) place) question) result self.new }
     {
         self.ask_uncounted::<Brand>(place, question, Blank::new(1))
     }
 
     fn all(&mut self, place: u32) -> Result<Listing, NoMemory>
         requires { place ≤ length (rows_inside self.old) }
-        ensures kind { kind_inside self.new ≡ kind_inside self.old }
-        ensures variant { is_fused self.new ≡ is_fused self.old }
-        ensures rows { rows_inside self.new ≡ rows_inside self.old }
-        ensures content { IfOk result (λ listing. listing ≡ content (state_at (kind_inside self.old) (rows_inside self.old) place)) }
-        ensures checkpoints { is_pq self.old ≡ true → OnOk result (MakesCheckpoints (seen_inside self.old) (seen_inside self.new)) }
-        ensures err { OnErr result (self.new ≡ self.old) }
+        ensures asked { IsAsked self.old (content (state_at (kind_inside self.old) (rows_inside self.old) place)) result self.new }
     {
         match self {
             Engine::Queue { inner } => inner.all(place),
