@@ -171,18 +171,20 @@ class History {
     });
   }
 
-  // The edits of a step of a priority queue, each with the rows before it, as its evidence tells them.
+  // The edits of a step of a priority queue, each with the rows before it, as its evidence tells them: the row of one that adds has come by
+  // the step, that of one that cuts is gone.
   edits(step) {
     const told = this.evidence[step - 1];
     if (told === undefined || told === ".") return [];
+    const { come, gone } = this.edited(step);
     let rows = this.standing(step - 1);
     return told.split("+").map((text) => {
-      const [, edit, place, bridge, change, entry, number] = /^([ac])(\d+),(n|\d+),([gl])(\d+),(\d+)$/.exec(text);
-      const row = this.number.indexOf(Number(number));
+      const [, edit, behind, change, entry] = /^([ac])(n|-?\d+)([gl])(\d+)$/.exec(text);
+      const row = edit === "a" ? come[0] : gone[0];
       const before = rows;
-      const at = Number(place);
+      const at = before.filter((other) => other < row).length;
       rows = edit === "a" ? [...before.slice(0, at), row, ...before.slice(at)] : before.filter((_, index) => index !== at);
-      const stated = bridge === "n" ? null : Number(bridge);
+      const stated = behind === "n" ? null : at - Number(behind);
       const changed = this.number.indexOf(Number(entry));
       return { before, after: rows, added: edit === "a", place: at, row, bridge: stated, gained: change === "g", entry: changed };
     });

@@ -88,7 +88,7 @@ class History:
         self._make(gone, come)
 
     def _put(self, verb: str, said: Sequence[str], number: int) -> None:
-        """Gives a new row its place among the rows that ever stood."""
+        """Gives a new row its place among the rows that ever stood; a changed one stands just before the one that it was."""
         if verb == "at":
             self._table.put_at(Row(number, int(said[2]), _spelled(said[3:])))
             return
@@ -96,7 +96,7 @@ class History:
         if verb == "move":
             self._table.put_at(Row(number, int(said[4]), old.operation))
         else:
-            self._table.put(self._table.place(old.number) + (verb != "before"), Row(number, old.time, _spelled(said[3:])))
+            self._table.put(self._table.place(old.number) + (verb == "after"), Row(number, old.time, _spelled(said[3:])))
 
     def _make(self, gone: Iterable[int], come: Iterable[int]) -> None:
         for number in gone:
@@ -115,10 +115,10 @@ def _spelled(operation: Sequence[str]) -> str:
 
 
 def _short(text: str) -> str:
-    """Of a line of evidence its edit, its place, its bridge, and the row whose entry is gained or lost."""
+    """Of a line of evidence its edit, how far behind its bridge that is, and the row whose entry is gained or lost; the place is that of the row."""
     said = evidence_of(text)
-    bridge = "n" if said.bridge is None else str(said.bridge)
-    return "%s%d,%s,%s%d,%d" % (said.edit[0], said.place, bridge, said.change[0], said.entry, said.number)
+    bridge = "n" if said.bridge is None else str(said.place - said.bridge)
+    return "%s%s%s%d" % (said.edit[0], bridge, said.change[0], said.entry)
 
 
 def histories_of(replies: Iterable[Reply]) -> List[History]:

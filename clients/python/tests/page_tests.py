@@ -1,5 +1,6 @@
 """The page of a history: what it holds, what it refuses, and in a browser what it shows beside the program's answers."""
 
+import bisect
 import json
 import os
 import random
@@ -9,8 +10,8 @@ from unittest import mock
 
 import browser
 import second_bench
-from retro import PageDiffers, Row, Saved, compared, page, read_source
-from retro.history_page import FRAME
+from retro import PageDiffers, Reply, Row, Saved, compared, evidence_of, page, read_source
+from retro.history_page import FRAME, _told
 from retro.rows import Performed
 from retro.versions import histories_of
 from retro.whole import answer
@@ -72,6 +73,23 @@ class Made(unittest.TestCase):
                         self.assertEqual(history.steps[step - 1].refused, told[0] if told[0].startswith("refused") else "")
                 self.assertEqual(history.counts(), [len(history.standing(one)) for one in range(1, step + 1)])
 
+    def test_the_place_of_an_edit_is_that_of_its_row(self):
+        """The page has no places of evidence: it finds them by the rows that stand before the edit."""
+        edits = 0
+        for start in range(20):
+            lines = script(random.Random(start), "pq", 60)
+            replies = answer(lines, PROGRAM).replies
+            (history,) = histories_of(replies)
+            order = [row.number for row in history.universe]
+            for step, line in enumerate((one.line for one in history.steps), 1):
+                standing = [row.number for row in history.standing(step - 1)]
+                for one in [evidence_of(text) for text in replies[line - 1].answers if text.startswith("edit ") and step > 1]:
+                    before = set(order[: order.index(one.number)])
+                    self.assertEqual(one.place, sum(number in before for number in standing), (start, line))
+                    standing = [*standing, one.number] if one.edit == "add" else [number for number in standing if number != one.number]
+                    edits += 1
+        self.assertGreater(edits, 400)
+
     def test_nothing_is_fetched_and_names_stay_text(self):
         text = page(["new t queue", "t at 5 enq 1", "t at 6 enq 2"], NAMES, title="<i>", program=PROGRAM)
         self.assertEqual(re.findall(r"https?://[^\"' ]*", text), ["http://www.w3.org/2000/svg"])
@@ -106,6 +124,22 @@ class Made(unittest.TestCase):
         frames = data_of(text)["timelines"][0]["frames"]
         self.assertEqual([frame.split()[0] for frame in frames], [str(FRAME * index - 1) for index in (1, 2, 3, 4)])
         self.assertEqual(frames[0].split()[1:5], ["0", "0", "0", "172"])
+
+    def test_a_full_timeline_whose_rows_are_steps_stays_below_five_megabytes(self):
+        """Each row of a priority queue comes by a line of its own, with evidence; the answers are made up here, as long as they can be."""
+        count, draws, times = 131_072 if INTEGRATIONS else 8_192, random.Random(1), []
+        replies = [Reply(1, 1, b"new t pq", ("ok",))]
+        for number in range(1, count + 1):
+            time, key = 1764320400 + draws.randrange(8_000_000), draws.randrange(10**6)
+            place = bisect.bisect_right(times, time)
+            times.insert(place, time)
+            said = (place, number, key, max(0, place - draws.randrange(50)), draws.randint(1, number), key)
+            told = "edit t add %d #%d ins %d bridge %d gain #%d %d" % said
+            replies.append(Reply(number + 1, number + 1, b"t at %d ins %d" % (time, key), (told,)))
+        (history,) = histories_of(replies)
+        size = len(json.dumps(_told(history, []), separators=(",", ":")))
+        print("page: %d steps of a pq take %.1f MB without key frames" % (count, size / 1e6))
+        self.assertLess(size, 4_300_000 * count / 131_072)
 
     def test_a_full_timeline_stays_below_five_megabytes(self):
         count = 131_072 if INTEGRATIONS else 8_192
@@ -269,6 +303,27 @@ class Shown(unittest.TestCase):
         heights = self.browser.value("[...document.querySelectorAll('#stairs svg:first-of-type circle')].map((dot) => Number(dot.getAttribute('cy')))")
         self.assertEqual([(84 - height) / 22 for height in heights[:7]], [0, 0, 1, 2, 1, 0, 0])
         self.assertEqual(self.texts("#stairs .entry"), ["+ 4", "+ 4"])
+
+    def test_each_step_shows_the_evidence_that_the_program_gave(self):
+        lines = script(random.Random(7), "pq", 60)
+        replies = answer(lines, PROGRAM).replies
+        (history,) = histories_of(replies)
+        self.opened(page(lines, program=PROGRAM))
+        edits = 0
+        for step, line in enumerate((one.line for one in history.steps), 1):
+            told = [evidence_of(text) for text in replies[line - 1].answers if text.startswith("edit ") and step > 1]
+            self.slide("step", step)
+            wanted = [
+                "%s at place %d: row %d; %s; the present has %s %d of row %d." % (
+                    "Put in" if one.edit == "add" else "Cut", one.place, one.number,
+                    "no bridge decides" if one.bridge is None else "the bridge is place %d" % one.bridge,
+                    "gained" if one.change == "gain" else "lost", one.key, one.entry,
+                ) for one in told
+            ]
+            self.assertEqual(self.texts("#stairs p"), wanted or ["This step has no evidence of one edit."])
+            edits += len(wanted)
+        self.assertGreater(edits, 30)
+        self.quiet()
 
     def test_a_timeline_that_is_long(self):
         count = (20 if INTEGRATIONS else 4) * FRAME
