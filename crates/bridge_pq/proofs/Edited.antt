@@ -21,7 +21,6 @@ use Rattle.retro_base.specs.Timeline.{IsFresh, IsReplayable}
 use Rattle.retro_base.specs.Weights.{added_by}
 use Rattle.retro_base.specs.lemmas.bridges.Entries.{In, contains_in, in_contains}
 use Rattle.retro_base.specs.lemmas.bridges.Histories.{added_number}
-use Rattle.retro_base.specs.lemmas.bridges.NamedChange.{cut_survivor_changes}
 use Rattle.bridge_pq.specs.declared.marked_row.MarkedRow.{MarkedRow}
 use Rattle.bridge_pq.specs.declared.marked_entry.MarkedEntry.{MarkedEntry}
 use Rattle.bridge_pq.specs.Bridged.{AddsAt, IsFlipped, Holds, IsBridged}
@@ -30,6 +29,7 @@ use Rattle.bridge_pq.specs.MarkedRows.{rows_of, AreMarked}
 use Rattle.bridge_pq.proofs.Places.{insert-at, map-insert, map-remove, map-get, set-inserted}
 use Rattle.bridge_pq.proofs.RowExtremes.{adds-in, adds-within}
 use Rattle.bridge_pq.proofs.EntryEdits.{put-then-marked}
+use Rattle.bridge_pq.proofs.FoundFlips.{own-read, read-changes}
 use Rattle.bridge_pq.proofs.FlippedRows.{flip-loss, others-marked, set-marked, rows-set, insert-marked, remove-marked, fresh-removed}
 use Rattle.bridge_pq.proofs.HeldEntries.{added-le, fresh-not-added, holds-put, holds-with-take, holds-taken, holds-without-take, holds-marked, holds-others, survivor-added}
 use Rattle.retro_base.specs.Facts.{one_value}
@@ -195,7 +195,8 @@ module _ (items : List MarkedRow) (entries : List MarkedEntry) (bridged : IsBrid
   }
 
   pub survivor-changes : (own : Entry) → added_by row ≡ Some own → Contains (survivors rows_before) own → IsPqChange rows_before (cut place row) (Lose None own)
-  survivor-changes own adds lives = cut_survivor_changes rows_before place row own (possible-cut items entries place row bridged there) adds lives
+  survivor-changes own adds lives =
+      read-changes rows_before (cut place row) (possible-cut items entries place row bridged there) (Lose None own) (own-read rows_before place row own adds lives)
 
   pub cut-survivor : (own : Entry) → added_by row ≡ Some own → Contains (survivors rows_before) own → (new_items : List MarkedRow) (new_entries : List MarkedEntry)
       → new_items ≡ remove items place → new_entries ≡ without_entry own entries → IsBridged new_items new_entries × (rows_of new_items ≡ remove rows_before place)

@@ -1,20 +1,24 @@
 -- The first row that could not be performed after an edit of a queue by bridges.
-use Rattle.std.proofs.Common.{◌≡◌, ℕ, zero, suc, ◌+◌, ◌≤◌, ◌-◌, true, List, [], ◌∷◌, take, length, inl, inr, refl, sym, ap, ◌∙◌, arith, subst, Some, None, Option, Result, Err}
+use Rattle.std.proofs.Common.{◌≡◌, ℕ, zero, suc, ◌+◌, ◌≤◌, ◌-◌, true, List, [], ◌∷◌, take, length, inl, inr, refl, sym, ap, ◌∙◌, arith, subst, add-one, Some, None, Option, Result, Err}
 use Rattle.std.specs.Prelude.{Contains, is_some}
 use Rattle.std.specs.List.{insert, remove, slice_get, cons_option}
-use Rattle.std.specs.Option.{option_map_or, MatchOption}
+use Rattle.std.specs.Option.{option_map, option_map_or}
 use Rattle.std.specs.Result.{result_err}
 use Rattle.retro_base.specs.declared.kind.Kind.TheVariants.{Pq}
 use Rattle.retro_base.specs.declared.op.Op.{Op}
-use Rattle.retro_base.specs.declared.op.Op.TheVariants.{Enq, Deq, Push, Pop, PushL, PushR, PopL, PopR, Put, Del, Ins, DelMin}
+use Rattle.retro_base.specs.declared.op.Op.TheVariants.{DelMin}
+use Rattle.retro_base.specs.declared.row.Change.TheVariants.{Lose}
 use Rattle.retro_base.specs.declared.row.Entry.{Entry}
 use Rattle.retro_base.specs.declared.row.Row.{Row}
-use Rattle.retro_base.specs.Bridges.{survivors, IsFirstBridge}
-use Rattle.retro_base.specs.BridgeTable.{added, IsSurvivorBefore}
+use Rattle.retro_base.specs.Better.{comes_after}
+use Rattle.retro_base.specs.Bridges.{survivors, first_bridge}
+use Rattle.retro_base.specs.BridgeTable.{added, IsSurvivorBefore, IsLeast}
 use Rattle.retro_base.specs.Carried.{IsPqHistory, IsPqEdit}
 use Rattle.retro_base.specs.Counting.{quantity_of, quantity_after, counted}
-use Rattle.retro_base.specs.Edits.{add, cut}
+use Rattle.retro_base.specs.Edits.{Edit, add, cut, edited}
 use Rattle.retro_base.specs.Kind.{kind_of}
+use Rattle.retro_base.specs.MarkedChange.{least_survivor, marked_change, marked_failure}
+use Rattle.retro_base.specs.MarkedChangeLaws.{IsRightOf}
 use Rattle.retro_base.specs.Replay.{failure, fold_rows, one_later}
 use Rattle.retro_base.specs.Timeline.{IsFresh}
 use Rattle.retro_base.specs.Weights.{added_as, added_by}
@@ -22,7 +26,12 @@ use Rattle.retro_base.specs.lemmas.Counted.{failure_with}
 use Rattle.retro_base.specs.lemmas.Folds.{fold_rows-cons}
 use Rattle.retro_base.specs.lemmas.bridges.Entries.{In, contains_in, in_contains}
 use Rattle.retro_base.specs.lemmas.bridges.EditsCarry.{giving_accepted}
-use Rattle.retro_base.specs.lemmas.bridges.LossTable.{added_take_loses, cut_dead_loses, cut_survivor_loses}
+use Rattle.retro_base.specs.lemmas.bridges.Best.{FindsBest, least_found}
+use Rattle.retro_base.specs.lemmas.bridges.Histories.{none_some}
+use Rattle.retro_base.specs.lemmas.bridges.MarkedChange.{marks_tell}
+use Rattle.retro_base.specs.lemmas.bridges.StatedBridges.{adds_or_takes}
+use Rattle.bridge_pq.specs.Bridged.{FindsRow}
+use Rattle.bridge_pq.proofs.FoundFlips.{added-loss, cut-loss, own-read}
 
 -- a number above those of all rows
 abbrev pub number_above : List Row → ℕ
@@ -75,36 +84,14 @@ fails_alike rows place a b history same of_kind =
     ∙ sym (failure_with Pq rows place b history.of_kind history.valid (ap kind_of (sym same) ∙ of_kind))
 
 -- whether a row adds does not depend on its number
-takes_alike : (op : Op) (a b : ℕ) → added_as op a ≡ None → added_as op b ≡ None
-takes_alike (Ins key) a b takes = absurd (cc)
-takes_alike (Enq value) a b takes = refl
-takes_alike Deq a b takes = refl
-takes_alike (Push value) a b takes = refl
-takes_alike Pop a b takes = refl
-takes_alike (PushL value) a b takes = refl
-takes_alike (PushR value) a b takes = refl
-takes_alike PopL a b takes = refl
-takes_alike PopR a b takes = refl
-takes_alike (Put key value) a b takes = refl
-takes_alike (Del key) a b takes = refl
-takes_alike DelMin a b takes = refl
+takes_alike : (op : Op) (a b : ℕ) → kind_of op ≡ Pq → added_as op a ≡ None → added_as op b ≡ None
+takes_alike op a b of_kind takes = elim (adds_or_takes op of_kind) [ inl ins ↦ absurd (none_some (added_as op a) takes (ap (λ o. added_as o a) ins.1)) | inr is ↦ ap (λ o. added_as o b) is ]
 
 -- an operation of a priority queue that does not take adds
 pub not-take-adds : (op : Op) (number : ℕ) → kind_of op ≡ Pq → (op ≡ DelMin → ⊥) → is_some (added_as op number) ≡ true
-not-take-adds (Ins key) number of_kind not_take = refl
-not-take-adds DelMin number of_kind not_take = absurd (not_take refl)
-not-take-adds (Enq value) number of_kind not_take = absurd (cc)
-not-take-adds Deq number of_kind not_take = absurd (cc)
-not-take-adds (Push value) number of_kind not_take = absurd (cc)
-not-take-adds Pop number of_kind not_take = absurd (cc)
-not-take-adds (PushL value) number of_kind not_take = absurd (cc)
-not-take-adds (PushR value) number of_kind not_take = absurd (cc)
-not-take-adds PopL number of_kind not_take = absurd (cc)
-not-take-adds PopR number of_kind not_take = absurd (cc)
-not-take-adds (Put key value) number of_kind not_take = absurd (cc)
-not-take-adds (Del key) number of_kind not_take = absurd (cc)
+not-take-adds op number of_kind not_take = elim (adds_or_takes op of_kind) [ inl ins ↦ ap (λ o. is_some (added_as o number)) ins.1 | inr is ↦ absurd (not_take is) ]
 
--- a survivor from before a place is one from before each place after it
+-- where a survivor stands before a place, one stands before each place after it
 added_later : (rows : List Row) (place later : ℕ) (e : Entry) → place ≤ later → In e (added (take place rows)) → In e (added (take later rows))
 added_later rows zero later e order inside = absurd inside
 added_later [] (suc place) later e order inside = absurd inside
@@ -115,12 +102,27 @@ added_later (first ∷ rows) (suc place) (suc later) e order inside =
       | None ↦ λ beyond. added_later rows place later e (omega arith) beyond
     ] inside
 
-pub survivor-later : (rows : List Row) (place later : ℕ) (e : Entry) → place ≤ later → IsSurvivorBefore rows place e → IsSurvivorBefore rows later e
-survivor-later rows place later e order early = (in_contains _ e (added_later rows place later e order (contains_in _ e early.0)), early.1)
+later_one : (rows : List Row) (later : ℕ) (e : Entry) → IsSurvivorBefore rows later e → (found : Option Entry) → FindsBest comes_after (IsSurvivorBefore rows later) found → (x : Entry) × (found ≡ Some x)
+later_one rows later e early None none = absurd (none e early)
+later_one rows later e early (Some x) best = (x, refl)
 
-pub found-some : (found : Option ℕ) (none : Type 0) (some : ℕ → Type 0) → is_some found ≡ true → MatchOption found none some → (place : ℕ) × some place
-found-some None none some there is = absurd (cc)
-found-some (Some place) none some there is = (place, is)
+pub least-later : (rows : List Row) (place later : ℕ) → place ≤ later → (found : Option ℕ) → is_some found ≡ true → FindsRow rows (least_survivor rows place) found
+    → (x : Entry) × (least_survivor rows later ≡ Some x)
+least-later rows place later order None some there = absurd (cc)
+least-later rows place later order (Some p) some there =
+    let least : IsLeast (IsSurvivorBefore rows place) there.0 = subst (FindsBest comes_after (IsSurvivorBefore rows place)) there.1 (least_found rows place) in
+    later_one rows later there.0 (in_contains _ there.0 (added_later rows place later there.0 order (contains_in _ there.0 least.one.0)), least.one.1)
+    (least_survivor rows later) (least_found rows later)
+
+-- no row fails where a survivor is found, and else one at this index
+abbrev pub failure_by : Option Entry → ℕ → Option ℕ
+failure_by None index = Some index
+failure_by (Some e) index = None
+
+failure_of : (rows : List Row) (edit : Edit) (bridge : ℕ) (found : Option Entry) → IsPqEdit rows edit → marked_change rows edit ≡ option_map (λ e. Lose (Some bridge) e) found
+    → failure Pq (edited rows edit) ≡ failure_by found (marked_failure rows edit)
+failure_of rows edit bridge None possible read = subst (IsRightOf rows edit) read (marks_tell rows edit possible)
+failure_of rows edit bridge (Some e) possible read = (subst (IsRightOf rows edit) read (marks_tell rows edit possible)).0
 
 module _ (rows : List Row) (place : ℕ) (row : Row) (history : IsPqHistory rows) (within : place ≤ length rows) (of_kind : kind_of row.op ≡ Pq) where
   possible : IsPqEdit rows (add place (numbered_above rows row))
@@ -129,13 +131,11 @@ module _ (rows : List Row) (place : ℕ) (row : Row) (history : IsPqHistory rows
   alike : failure Pq (insert rows place row) ≡ failure Pq (insert rows place (numbered_above rows row))
   alike = fails_alike rows place row (numbered_above rows row) history refl of_kind
 
-  pub take-goes : (bridge : ℕ) (e : Entry) → added_by row ≡ None → IsFirstBridge rows place bridge → IsSurvivorBefore rows bridge e → failure Pq (insert rows place row) ≡ None
-  take-goes bridge e takes first early =
-      alike ∙ (added_take_loses rows place (numbered_above rows row) bridge possible (takes_alike row.op row.number (number_above rows) takes) first).accepted.1 (e, early)
-
-  pub take-fails : (bridge : ℕ) → added_by row ≡ None → IsFirstBridge rows place bridge → ((e : Entry) → ¬ IsSurvivorBefore rows bridge e) → failure Pq (insert rows place row) ≡ Some bridge
-  take-fails bridge takes first nobody =
-      alike ∙ (added_take_loses rows place (numbered_above rows row) bridge possible (takes_alike row.op row.number (number_above rows) takes) first).fails (λ some. nobody some.0 some.1)
+  pub take-failure : (found : Option Entry) → added_by row ≡ None → least_survivor rows (first_bridge rows place) ≡ found
+      → failure Pq (insert rows place row) ≡ failure_by found (first_bridge rows place)
+  take-failure found takes least =
+      alike ∙ failure_of rows (add place (numbered_above rows row)) (first_bridge rows place) found possible
+      (added-loss rows place (numbered_above rows row) (first_bridge rows place) found (takes_alike row.op row.number (number_above rows) of_kind takes) refl least)
 
   pub add-goes : is_some (added_as row.op (number_above rows)) ≡ true → failure Pq (insert rows place row) ≡ None
   add-goes adds = alike ∙ giving_accepted rows (add place (numbered_above rows row)) possible adds
@@ -144,18 +144,14 @@ module _ (rows : List Row) (place : ℕ) (row : Row) (own : Entry) (history : Is
   possible_cut : IsPqEdit rows (cut place row)
   possible_cut = record { history = history; within = there; own_row = tt }
 
-  pub cut-dead-goes : (next bridge : ℕ) (e : Entry) → next ≡ place + 1 → ¬ Contains (survivors rows) own → IsFirstBridge rows next bridge → IsSurvivorBefore rows bridge e
-      → failure Pq (remove rows place) ≡ None
-  cut-dead-goes next bridge e on dead first early =
-      (cut_dead_loses rows place row own bridge possible_cut adds dead (subst (λ n. IsFirstBridge rows n bridge) (let step : next ≡ suc place = omega (arith, on) in step) first)).accepted.1 (e, early)
-
-  pub cut-dead-fails : (next bridge : ℕ) → next ≡ place + 1 → ¬ Contains (survivors rows) own → IsFirstBridge rows next bridge → ((e : Entry) → ¬ IsSurvivorBefore rows bridge e)
-      → failure Pq (remove rows place) ≡ Some (bridge - 2)
-  cut-dead-fails next bridge on dead first nobody =
-      (cut_dead_loses rows place row own bridge possible_cut adds dead (subst (λ n. IsFirstBridge rows n bridge) (let step : next ≡ suc place = omega (arith, on) in step) first)).fails (λ some. nobody some.0 some.1)
+  pub cut-failure : (found : Option Entry) → ¬ Contains (survivors rows) own → least_survivor rows (first_bridge rows (place + 1)) ≡ found
+      → failure Pq (remove rows place) ≡ failure_by found (first_bridge rows (place + 1) - 2)
+  cut-failure found dead least =
+      failure_of rows (cut place row) (first_bridge rows (place + 1)) found possible_cut (cut-loss rows place row (first_bridge rows (place + 1)) found own adds dead refl least)
+      ∙ ap (λ n. failure_by found (first_bridge rows n - 2)) (sym (add-one place))
 
   pub cut-survivor-goes : Contains (survivors rows) own → failure Pq (remove rows place) ≡ None
-  cut-survivor-goes lives = (cut_survivor_loses rows place row own possible_cut adds lives).0
+  cut-survivor-goes lives = (subst (IsRightOf rows (cut place row)) (own-read rows place row own adds lives) (marks_tell rows (cut place row) possible_cut)).0
 
 pub cut-take-goes : (rows : List Row) (place : ℕ) (row : Row) → IsPqHistory rows → slice_get rows place ≡ Some row → added_by row ≡ None → failure Pq (remove rows place) ≡ None
 cut-take-goes rows place row history there takes =

@@ -15,7 +15,8 @@ use Rattle.retro_base.specs.lemmas.bridges.Tests.{in_is_among, not_among}
 use Rattle.retro_base.specs.lemmas.bridges.Histories.{added_number}
 use Rattle.bridge_pq.specs.declared.marked_row.MarkedRow.{MarkedRow}
 use Rattle.bridge_pq.specs.Bridged.{IsFlipped}
-use Rattle.bridge_pq.specs.MarkedRows.{rows_of, is_one_of, AreMarked}
+use Rattle.retro_base.specs.MarkedChange.{is_one_of}
+use Rattle.bridge_pq.specs.MarkedRows.{rows_of, AreMarked}
 
 -- one more among the survivors, or one fewer
 among_with : (e x : Entry) (alive : List Entry) → x ≢ e → is_among (with_entry e alive) x ≡ is_among alive x

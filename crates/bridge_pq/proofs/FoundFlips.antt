@@ -1,29 +1,35 @@
--- What is found at a bridge is what the edit flips.
-use Rattle.std.proofs.Common.{◌≡◌, ◌≢◌, ℕ, suc, ◌+◌, ◌-◌, ◌≤◌, true, false, List, length, cond, ◌⊎◌, inl, inr, refl, sym, ap, ◌∙◌, arith, subst, add-one, Some, None}
-use Rattle.std.specs.Prelude.{nat_lt, Contains}
+-- What is found at a bridge is the change that is read off the marks, and what the edit flips.
+use Rattle.std.proofs.Common.{◌≡◌, ◌≢◌, ℕ, suc, ◌+◌, ◌-◌, ◌≤◌, true, false, List, length, cond, inl, inr, sym, ap, ◌∙◌, arith, subst, add-one, Option, Some, None}
+use Rattle.std.specs.Prelude.{nat_lt, Contains, option_map}
 use Rattle.std.specs.List.{insert, remove, slice_get}
 use Rattle.std.proofs.lemmas.Bool.{cases_lt}
 use Rattle.retro_base.specs.declared.kind.Kind.TheVariants.{Pq}
+use Rattle.retro_base.specs.declared.row.Change.{Change}
 use Rattle.retro_base.specs.declared.row.Change.TheVariants.{Gain, Lose}
 use Rattle.retro_base.specs.declared.row.Entry.{Entry}
 use Rattle.retro_base.specs.declared.row.Row.{Row}
+use Rattle.retro_base.specs.Better.{comes_after, better_of}
 use Rattle.retro_base.specs.State.{comes_before}
-use Rattle.retro_base.specs.Bridges.{survivors, IsLastBridge, IsFirstBridge}
-use Rattle.retro_base.specs.BridgeTable.{IsDeadFrom, IsSurvivorBefore, IsGreatest, IsLeast}
+use Rattle.retro_base.specs.BridgeTable.{IsSurvivorBefore}
+use Rattle.retro_base.specs.Bridges.{survivors, last_bridge, first_bridge}
 use Rattle.retro_base.specs.Carried.{IsPqEdit}
-use Rattle.retro_base.specs.Edits.{add, cut, IsAccepted}
+use Rattle.retro_base.specs.Changes.{IsPqChange}
+use Rattle.retro_base.specs.Edits.{Edit, add, cut, edited, IsAccepted}
+use Rattle.retro_base.specs.MarkedChange.{greatest_dead, least_survivor, gained, lost, added_change, cut_change, marked_change, marked_failure}
+use Rattle.retro_base.specs.MarkedChangeLaws.{IsRightOf}
+use Rattle.retro_base.specs.Replay.{failure}
 use Rattle.retro_base.specs.Weights.{added_by}
-use Rattle.retro_base.specs.lemmas.bridges.EntryOrder.{before_irreflexive}
-use Rattle.retro_base.specs.lemmas.bridges.Chain.{at_most_trans}
-use Rattle.retro_base.specs.lemmas.bridges.LossTable.{added_take_loses, cut_dead_loses}
-use Rattle.retro_base.specs.lemmas.bridges.NamedChange.{added_entry_changes, added_take_changes, cut_take_changes, cut_dead_changes, cut_take_leaves_dead}
+use Rattle.retro_base.specs.lemmas.bridges.Entries.{in_contains, contains_in}
+use Rattle.retro_base.specs.lemmas.bridges.Tests.{in_is_among, not_among}
 use Rattle.retro_base.specs.lemmas.bridges.Histories.{some_same, none_some}
-use Rattle.bridge_pq.specs.Bridged.{AddsAt}
+use Rattle.retro_base.specs.lemmas.bridges.MarkedChange.{marks_tell}
+use Rattle.retro_base.specs.lemmas.bridges.Best.{FindsBest, least_found}
+use Rattle.bridge_pq.specs.Bridged.{AddsAt, FindsRow}
 use Rattle.bridge_pq.specs.Flips.{Flips}
 use Rattle.bridge_pq.proofs.LowestPlaces.{lt_true, lt_false}
 use Rattle.bridge_pq.proofs.Places.{insert-at, insert-before, insert-after, remove-before, remove-after}
 use Rattle.bridge_pq.proofs.FlippedRows.{flip-gain, flip-loss}
-use Rattle.retro_base.specs.Facts.{one_at}
+use Rattle.retro_base.specs.Facts.{one_at, some_is_not_none}
 
 -- the place of a row after another one came in or went
 pub adds-with : (rows : List Row) (place p : ℕ) (row : Row) (e : Entry) → place ≤ length rows → AddsAt rows p e → AddsAt (insert rows place row) (cond (nat_lt p place) p (p + 1)) e
@@ -47,106 +53,74 @@ pub same-entry : (rows : List Row) (p : ℕ) (a b : Entry) → AddsAt rows p a �
 same-entry rows p a b first second =
     some_same (added_by first.0) first.2 (ap added_by (one_at rows p first.0 second.0 first.1 second.1) ∙ second.2)
 
--- a row put in that adds
-module _ (rows : List Row) (place : ℕ) (row : Row) (new : Entry) (bridge : ℕ) (possible : IsPqEdit rows (add place row)) (adds : added_by row ≡ Some new) (last : IsLastBridge rows place bridge) where
-  gain_of : (entry : Entry) (p : ℕ) → IsGreatest (λ e. (e ≡ new) ⊎ IsDeadFrom rows bridge e) entry → AddsAt (insert rows place row) p entry
-      → Flips rows (add place row) (record { change = Gain bridge entry; entry = entry; place = p; survives = true })
-  gain_of entry p great there =
-      let changes = added_entry_changes rows place row new bridge entry possible adds last great in
-      record { changes = changes; there = there; marks = flip-gain entry (survivors rows) (survivors (insert rows place row)) changes.1 }
+-- the entry that was read at the place is the one that was found
+pub found-at : (rows : List Row) (p : ℕ) (entry : Option Entry) (e : Entry) → FindsRow rows entry (Some p) → AddsAt rows p e → entry ≡ Some e
+found-at rows p entry e found at = found.1 ∙ ap (λ x. Some x) (same-entry rows p found.0 e found.2 at)
 
-  new_there : AddsAt (insert rows place row) place new
-  new_there = (row, insert-at rows place row possible.within, adds)
+-- the change by what was found at the bridge
+module _ (rows : List Row) (place : ℕ) (row : Row) (bridge : ℕ) (found : Option Entry) where
+  pub added-gain : (new : Entry) → added_by row ≡ Some new → bridge ≡ last_bridge rows place → greatest_dead rows bridge ≡ found
+      → marked_change rows (add place row) ≡ option_map (λ e. Gain bridge e) (better_of comes_before (Some new) found)
+  added-gain new adds is greatest =
+      ap (added_change rows place) adds ∙ ap (λ b. gained rows b (Some new)) (sym is) ∙ ap (λ o. option_map (λ e. Gain bridge e) (better_of comes_before (Some new) o)) greatest
 
-  pub gain-new : ((e : Entry) → ¬ IsDeadFrom rows bridge e) → Flips rows (add place row) (record { change = Gain bridge new; entry = new; place = place; survives = true })
-  gain-new none = gain_of new place (record {
-    one = inl refl;
-    greatest = λ other which. elim which [ inl same ↦ subst (λ e. comes_before new e ≡ false) (sym same) (before_irreflexive new) | inr dead ↦ absurd (none other dead) ];
-  }) new_there
+  pub added-loss : added_by row ≡ None → bridge ≡ first_bridge rows place → least_survivor rows bridge ≡ found
+      → marked_change rows (add place row) ≡ option_map (λ e. Lose (Some bridge) e) found
+  added-loss takes is least = ap (added_change rows place) takes ∙ ap (lost rows) (sym is) ∙ ap (option_map (λ e. Lose (Some bridge) e)) least
 
-  pub gain-greater : (dead : Entry) → IsGreatest (IsDeadFrom rows bridge) dead → comes_before new dead ≡ false
-      → Flips rows (add place row) (record { change = Gain bridge new; entry = new; place = place; survives = true })
-  gain-greater dead great after = gain_of new place (record {
-    one = inl refl;
-    greatest = λ other which. elim which [
-      | inl same ↦ subst (λ e. comes_before new e ≡ false) (sym same) (before_irreflexive new)
-      | inr is_dead ↦ at_most_trans other dead new (great.greatest other is_dead) after
-    ];
-  }) new_there
+  pub cut-gain : added_by row ≡ None → bridge ≡ last_bridge rows place → greatest_dead rows bridge ≡ found
+      → marked_change rows (cut place row) ≡ option_map (λ e. Gain bridge e) (better_of comes_before None found)
+  cut-gain takes is greatest =
+      ap (cut_change rows place) takes ∙ ap (λ b. gained rows b None) (sym is) ∙ ap (λ o. option_map (λ e. Gain bridge e) (better_of comes_before None o)) greatest
 
-  pub gain-dead : (dead : Entry) (p : ℕ) → IsGreatest (IsDeadFrom rows bridge) dead → AddsAt rows p dead → comes_before new dead ≡ true → comes_before dead new ≡ false
-      → Flips rows (add place row) (record { change = Gain bridge dead; entry = dead; place = cond (nat_lt p place) p (p + 1); survives = true })
-  gain-dead dead p great at before after = gain_of dead (cond (nat_lt p place) p (p + 1)) (record {
-    one = inr great.one;
-    greatest = λ other which. elim which [ inl same ↦ subst (λ e. comes_before dead e ≡ false) (sym same) after | inr is_dead ↦ great.greatest other is_dead ];
-  }) (adds-with rows place p row dead possible.within at)
+  pub cut-loss : (own : Entry) → added_by row ≡ Some own → ¬ Contains (survivors rows) own → bridge ≡ first_bridge rows (place + 1) → least_survivor rows bridge ≡ found
+      → marked_change rows (cut place row) ≡ option_map (λ e. Lose (Some bridge) e) found
+  cut-loss own adds died is least =
+      let outside = not_among own (survivors rows) (λ inside. died (in_contains (survivors rows) own inside)) in
+      ap (cut_change rows place) adds ∙ ap (λ b. cond b (Some (Lose None own)) (lost rows (first_bridge rows (suc place)))) outside
+      ∙ ap (lost rows) (sym (is ∙ ap (first_bridge rows) (add-one place))) ∙ ap (option_map (λ e. Lose (Some bridge) e)) least
 
--- a row put in that takes
-pub loss-with : (rows : List Row) (place : ℕ) (row : Row) (bridge p : ℕ) (e : Entry) → IsPqEdit rows (add place row) → added_by row ≡ None → IsFirstBridge rows place bridge
-    → AddsAt rows p e → IsLeast (IsSurvivorBefore rows bridge) e
-    → Flips rows (add place row) (record { change = Lose (Some bridge) e; entry = e; place = cond (nat_lt p place) p (p + 1); survives = false })
-loss-with rows place row bridge p e possible takes first at least =
-    let changes = added_take_changes rows place row bridge e possible takes first least in
-    record {
-      changes = changes;
-      there = adds-with rows place p row e possible.within at;
-      marks = flip-loss e (survivors rows) (survivors (insert rows place row)) changes.1;
-    }
+pub own-read : (rows : List Row) (place : ℕ) (row : Row) (own : Entry) → added_by row ≡ Some own → Contains (survivors rows) own → marked_change rows (cut place row) ≡ Some (Lose None own)
+own-read rows place row own adds lives =
+    ap (cut_change rows place) adds
+    ∙ ap (λ b. cond b (Some (Lose None own)) (lost rows (first_bridge rows (suc place)))) (in_is_among own (survivors rows) (contains_in (survivors rows) own lives))
 
-pub some-with : (rows : List Row) (place : ℕ) (row : Row) (bridge : ℕ) → IsPqEdit rows (add place row) → IsAccepted Pq rows (add place row) → added_by row ≡ None
-    → IsFirstBridge rows place bridge → ((e : Entry) → ¬ IsSurvivorBefore rows bridge e) → ⊥
-some-with rows place row bridge possible accepted takes first none =
-    let some = (added_take_loses rows place row bridge possible takes first).accepted.0 accepted in none some.0 some.1
+-- what it flips
+module _ (rows : List Row) (edit : Edit) (possible : IsPqEdit rows edit) where
+  pub read-changes : (change : Change) → marked_change rows edit ≡ Some change → IsPqChange rows edit change
+  read-changes change read = (subst (IsRightOf rows edit) read (marks_tell rows edit possible)).1
 
--- a row taken out
-takes_not : (rows : List Row) (place p : ℕ) (row : Row) (e : Entry) → slice_get rows place ≡ Some row → added_by row ≡ None → AddsAt rows p e → p ≢ place
-takes_not rows place p row e there takes at same =
+  pub flips-gain : (bridge p : ℕ) (e : Entry) → marked_change rows edit ≡ Some (Gain bridge e) → AddsAt (edited rows edit) p e
+      → Flips rows edit (record { change = Gain bridge e; entry = e; place = p; survives = true })
+  flips-gain bridge p e read there =
+      let changes = read-changes (Gain bridge e) read in record { changes = changes; there = there; marks = flip-gain e (survivors rows) (survivors (edited rows edit)) changes.1 }
+
+  pub flips-loss : (bridge p : ℕ) (e : Entry) → marked_change rows edit ≡ Some (Lose (Some bridge) e) → AddsAt (edited rows edit) p e
+      → Flips rows edit (record { change = Lose (Some bridge) e; entry = e; place = p; survives = false })
+  flips-loss bridge p e read there =
+      let changes = read-changes (Lose (Some bridge) e) read in record { changes = changes; there = there; marks = flip-loss e (survivors rows) (survivors (edited rows edit)) changes.1 }
+
+  -- of an accepted edit a change is read
+  pub never-none : IsAccepted Pq rows edit → marked_change rows edit ≡ None → ⊥
+  never-none accepted none =
+      let fails : failure Pq (edited rows edit) ≡ Some (marked_failure rows edit) = subst (IsRightOf rows edit) none (marks_tell rows edit possible) in
+      some_is_not_none (sym fails ∙ accepted)
+
+pub new-there : (rows : List Row) (place : ℕ) (row : Row) (new : Entry) → IsPqEdit rows (add place row) → added_by row ≡ Some new → AddsAt (insert rows place row) place new
+new-there rows place row new possible adds = (row, insert-at rows place row possible.within, adds)
+
+-- the row that is cut is another one
+pub takes-not : (rows : List Row) (place p : ℕ) (row : Row) (e : Entry) → slice_get rows place ≡ Some row → added_by row ≡ None → AddsAt rows p e → p ≢ place
+takes-not rows place p row e there takes at same =
     let here : at.0 ≡ row = one_at rows place at.0 row (subst (λ n. slice_get rows n ≡ Some at.0) same at.1) there in
     none_some (added_by at.0) (ap added_by here ∙ takes) at.2
 
-pub gain-without-place : (rows : List Row) (place : ℕ) (row : Row) (p : ℕ) (e : Entry) → IsPqEdit rows (cut place row) → added_by row ≡ None → AddsAt rows p e → p ≢ place
-gain-without-place rows place row p e possible takes at = takes_not rows place p row e possible.within takes at
-
-pub gain-without : (rows : List Row) (place : ℕ) (row : Row) (bridge p : ℕ) (e : Entry) → IsPqEdit rows (cut place row) → added_by row ≡ None → IsLastBridge rows place bridge
-    → AddsAt rows p e → IsGreatest (IsDeadFrom rows bridge) e
-    → Flips rows (cut place row) (record { change = Gain bridge e; entry = e; place = cond (nat_lt p place) p (p - 1); survives = true })
-gain-without rows place row bridge p e possible takes last at great =
-    let changes = cut_take_changes rows place row bridge e possible takes last great in
-    record {
-      changes = changes;
-      there = adds-without rows place p e (gain-without-place rows place row p e possible takes at) at;
-      marks = flip-gain e (survivors rows) (survivors (remove rows place)) changes.1;
-    }
-
-pub dead-without : (rows : List Row) (place : ℕ) (row : Row) (bridge : ℕ) → IsPqEdit rows (cut place row) → added_by row ≡ None → IsLastBridge rows place bridge
-    → ((e : Entry) → ¬ IsDeadFrom rows bridge e) → ⊥
-dead-without rows place row bridge possible takes last none = let some = cut_take_leaves_dead rows place row bridge possible takes last in none some.0 some.1
-
-pub loss-without-place : (rows : List Row) (place : ℕ) (row : Row) (own : Entry) (bridge p : ℕ) (e : Entry) → IsPqEdit rows (cut place row) → added_by row ≡ Some own
-    → ¬ Contains (survivors rows) own → AddsAt rows p e → IsLeast (IsSurvivorBefore rows bridge) e → p ≢ place
-loss-without-place rows place row own bridge p e possible adds died at least same =
-    let here : e ≡ own = same-entry rows place e own (subst (λ n. AddsAt rows n e) same at) (row, possible.within, adds) in
-    died (subst (Contains (survivors rows)) here least.one.1)
-
-pub loss-without : (rows : List Row) (place next : ℕ) (row : Row) (own : Entry) (bridge p : ℕ) (e : Entry) → next ≡ place + 1 → IsPqEdit rows (cut place row) → added_by row ≡ Some own
-    → ¬ Contains (survivors rows) own → IsFirstBridge rows next bridge → AddsAt rows p e → IsLeast (IsSurvivorBefore rows bridge) e
-    → Flips rows (cut place row) (record { change = Lose (Some bridge) e; entry = e; place = cond (nat_lt p place) p (p - 1); survives = false })
-loss-without rows place next row own bridge p e on possible adds died first at least =
-    let changes = cut_dead_changes rows place row own bridge e possible adds died (subst (λ n. IsFirstBridge rows n bridge) (on ∙ add-one place) first) least in
-    record {
-      changes = changes;
-      there = adds-without rows place p e (loss-without-place rows place row own bridge p e possible adds died at least) at;
-      marks = flip-loss e (survivors rows) (survivors (remove rows place)) changes.1;
-    }
-
-pub some-without : (rows : List Row) (place next : ℕ) (row : Row) (own : Entry) (bridge : ℕ) → next ≡ place + 1 → IsPqEdit rows (cut place row) → IsAccepted Pq rows (cut place row)
-    → added_by row ≡ Some own → ¬ Contains (survivors rows) own → IsFirstBridge rows next bridge → ((e : Entry) → ¬ IsSurvivorBefore rows bridge e) → ⊥
-some-without rows place next row own bridge on possible accepted adds died first none =
-    let some = (cut_dead_loses rows place row own bridge possible adds died (subst (λ n. IsFirstBridge rows n bridge) (on ∙ add-one place) first)).accepted.0 accepted in none some.0 some.1
-
--- the entry that was read at the place is the one that was found
-pub greatest-at : (rows : List Row) (p bridge : ℕ) (e : Entry) → ((x : Entry) × AddsAt rows p x × IsGreatest (IsDeadFrom rows bridge) x) → AddsAt rows p e → IsGreatest (IsDeadFrom rows bridge) e
-greatest-at rows p bridge e found at = subst (IsGreatest (IsDeadFrom rows bridge)) (same-entry rows p found.0 e found.1 at) found.2
-
-pub least-at : (rows : List Row) (p bridge : ℕ) (e : Entry) → ((x : Entry) × AddsAt rows p x × IsLeast (IsSurvivorBefore rows bridge) x) → AddsAt rows p e → IsLeast (IsSurvivorBefore rows bridge) e
-least-at rows p bridge e found at = subst (IsLeast (IsSurvivorBefore rows bridge)) (same-entry rows p found.0 e found.1 at) found.2
+pub dead-not : (rows : List Row) (place bridge p : ℕ) (row : Row) (own e : Entry) → slice_get rows place ≡ Some row → added_by row ≡ Some own
+    → ¬ Contains (survivors rows) own → AddsAt rows p e → least_survivor rows bridge ≡ Some e → p ≢ place
+dead-not rows place bridge p row own e there adds died at least same =
+    let here : e ≡ own = same-entry rows place e own (subst (λ n. AddsAt rows n e) same at) (row, there, adds) in
+    died (subst (Contains (survivors rows)) here (lives (least_survivor rows bridge) (least_found rows bridge) least))
+  where
+    lives : (found : Option Entry) → FindsBest comes_after (IsSurvivorBefore rows bridge) found → found ≡ Some e → Contains (survivors rows) e
+    lives None best none = absurd (cc)
+    lives (Some x) best is = let one : x ≡ e = cc in subst (Contains (survivors rows)) one best.one.1

@@ -27,7 +27,8 @@ use Rattle.bridge_pq.specs.declared.marked_row.MarkedRow.{MarkedRow}
 use Rattle.bridge_pq.specs.declared.marked_entry.MarkedEntry.{MarkedEntry}
 use Rattle.bridge_pq.specs.Bridged.{AreAdded, IsBridged}
 use Rattle.bridge_pq.specs.MarkedEntries.{entries_in, present_in}
-use Rattle.bridge_pq.specs.MarkedRows.{rows_of, is_one_of}
+use Rattle.retro_base.specs.MarkedChange.{is_one_of}
+use Rattle.bridge_pq.specs.MarkedRows.{rows_of}
 use Rattle.bridge_pq.proofs.Edited.{history-of, few-entries, rows-length}
 use Rattle.bridge_pq.proofs.HeldEntries.{present-is, present-state}
 use Rattle.retro_base.specs.Outcomes.{err_of}

@@ -14,7 +14,8 @@ use Rattle.retro_base.specs.declared.row.Row.{Row}
 use Rattle.retro_base.specs.Bridges.{survivors}
 use Rattle.retro_base.specs.Weights.{added_by, weight, weight_as, sum_of_weights}
 use Rattle.bridge_pq.specs.declared.marked_row.MarkedRow.{MarkedRow}
-use Rattle.bridge_pq.specs.MarkedRows.{rows_of, is_one_of, AreMarked, weight_in, dead_in, alive_in, weights_of, row_measure}
+use Rattle.retro_base.specs.MarkedChange.{is_one_of, dead_in, alive_in}
+use Rattle.bridge_pq.specs.MarkedRows.{rows_of, AreMarked, weight_in, weights_of, row_measure}
 use Rattle.monoid_laws.specs.SummedLaws.{add_assoc}
 
 -- the dead and the survivors that the rows add

@@ -1,5 +1,5 @@
 -- What a priority queue by bridges keeps: a list of rows with their marks, and the entries that they add, in order, with theirs.
-use Rattle.std.specs.Prelude.{◌≡◌, ◌≢◌, ◌↔◌, ℕ, Bool, List, length, Contains, slice_get, Some}
+use Rattle.std.specs.Prelude.{◌≡◌, ◌≢◌, ◌↔◌, ℕ, Bool, List, length, Contains, slice_get, Option, Some, None}
 use Rattle.retro_base.specs.declared.kind.Kind.TheVariants.{Pq}
 use Rattle.retro_base.specs.declared.row.Entry.{Entry}
 use Rattle.retro_base.specs.declared.row.Row.{Row}
@@ -15,6 +15,11 @@ use Rattle.bridge_pq.specs.MarkedEntries.{entries_in, Rise, TellPresent}
 -- the row at this place adds the entry
 abbrev pub AddsAt : List Row → ℕ → Entry → Type 0
 AddsAt rows place entry = (row : Row) × (slice_get rows place ≡ Some row) × (added_by row ≡ Some entry)
+
+-- the row at the place that was found adds this entry, and no place was found where there is none
+abbrev pub FindsRow : List Row → Option Entry → Option ℕ → Type 0
+FindsRow rows entry None = entry ≡ None
+FindsRow rows entry (Some place) = (found : Entry) × (entry ≡ Some found) × AddsAt rows place found
 
 -- among the entries of the present this one is flipped, and no other
 pub record IsFlipped (before after : List Entry) (entry : Entry) (survives : Bool) : Type 0 where

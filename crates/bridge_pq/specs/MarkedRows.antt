@@ -1,5 +1,5 @@
 -- Rows with a mark that tells whether the entry that they add survives: what they weigh, and what a range of them measures.
-use Rattle.std.specs.Prelude.{◌≡◌, ℤ, pos, negsuc, Bool, true, false, List, map, if◌then◌else◌, refl}
+use Rattle.std.specs.Prelude.{◌≡◌, ℤ, pos, negsuc, Bool, List, map, if◌then◌else◌, refl}
 use Rattle.std.specs.Prelude.{Option, Some, None}
 use Rattle.std.specs.List.{AllByRecursion}
 use Rattle.std.specs.Ordering.{flip_args}
@@ -11,7 +11,7 @@ use Rattle.monoid_laws.specs.Laws.{MonoidLaws}
 use Rattle.bridge_pq.specs.EntryOrder.{entry_order, entry_total}
 use Rattle.retro_base.specs.declared.row.Entry.{Entry}
 use Rattle.retro_base.specs.declared.row.Row.{Row}
-use Rattle.retro_base.specs.Bridges.{is_among}
+use Rattle.retro_base.specs.MarkedChange.{is_one_of, dead_in, alive_in}
 use Rattle.retro_base.specs.Weights.{added_by}
 use Rattle.bridge_pq.specs.Dips.{Dip, no_dip, one_dip, joined_dip}
 use Rattle.bridge_pq.specs.DipLaws.{dip_laws}
@@ -21,11 +21,6 @@ use Rattle.bridge_pq.specs.declared.marked_row.MarkedRow.{MarkedRow}
 abbrev pub rows_of : List MarkedRow → List Row
 rows_of items = map (λ item. item.row) items
 
--- whether an added entry is among these
-abbrev pub is_one_of : List Entry → Option Entry → Bool
-is_one_of alive None = false
-is_one_of alive (Some entry) = is_among alive entry
-
 -- each mark tells whether the entry that the row adds is among these
 abbrev pub AreMarked : List Entry → List MarkedRow → Type 0
 AreMarked alive items = AllByRecursion (λ item. item.survives ≡ is_one_of alive (added_by item.row)) items
@@ -34,15 +29,6 @@ AreMarked alive items = AllByRecursion (λ item. item.survives ≡ is_one_of ali
 abbrev pub weight_in : Bool → Option Entry → ℤ
 weight_in survives None = negsuc 0
 weight_in survives (Some entry) = if survives then pos 0 else pos 1
-
--- the added entry, if it is dead, and if it survives
-abbrev pub dead_in : Bool → Option Entry → Option Entry
-dead_in true added = None
-dead_in false added = added
-
-abbrev pub alive_in : Bool → Option Entry → Option Entry
-alive_in true added = added
-alive_in false added = None
 
 -- the weights of marked rows
 abbrev pub weights_of : List MarkedRow → List ℤ

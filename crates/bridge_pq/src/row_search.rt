@@ -1,12 +1,12 @@
 //! Bridges and entries, found in the tree of rows.
 
-ghost use Rattle.std.specs.Prelude.{◌≡◌, ◌<◌, ◌≤◌, length, slice_get, slice_set, MatchOption, Some};
+ghost use Rattle.std.specs.Prelude.{◌≡◌, ◌<◌, ◌≤◌, length, slice_get, slice_set, Some};
 ghost use Rattle.retro_base.specs.declared.row.Entry.{Entry};
-ghost use Rattle.retro_base.specs.BridgeTable.{IsDeadFrom, IsSurvivorBefore, IsGreatest, IsLeast};
-ghost use Rattle.retro_base.specs.Bridges.{survivors, IsLastBridge, IsFirstBridge};
+ghost use Rattle.retro_base.specs.Bridges.{survivors, last_bridge, first_bridge};
 ghost use Rattle.retro_base.specs.Carried.{IsPqHistory};
+ghost use Rattle.retro_base.specs.MarkedChange.{greatest_dead, least_survivor};
 ghost use Rattle.retro_base.specs.Visits.{VisitsWithin};
-ghost use Rattle.bridge_pq.specs.Bridged.{AddsAt};
+ghost use Rattle.bridge_pq.specs.Bridged.{AddsAt, FindsRow};
 ghost use Rattle.bridge_pq.specs.MarkedRows.{rows_of, weights_of, AreMarked};
 ghost use Rattle.bridge_pq.specs.declared.marked_row.MarkedRow.{MarkedRow};
 ghost use Rattle.bridge_pq.specs.Dips.{is_lowest_up_to};
@@ -41,7 +41,8 @@ pub(crate) fn last_bridge<L: Ledger>(
     requires history { IsPqHistory (rows_of rows.now) }
     requires marked { AreMarked (survivors (rows_of rows.now)) rows.now }
     requires within { place ≤ length rows.now }
-    ensures bridge { IsLastBridge (rows_of rows.now) place result }
+    ensures bridge { result ≡ last_bridge (rows_of rows.now) place }
+    ensures within { result ≤ length rows.now }
     ensures visits { VisitsWithin 12 (length rows.now) steps.old steps.new }
 {
     if place == rows.len() {
@@ -62,7 +63,8 @@ pub(crate) fn first_bridge<L: Ledger>(
     requires history { IsPqHistory (rows_of rows.now) }
     requires marked { AreMarked (survivors (rows_of rows.now)) rows.now }
     requires within { place ≤ length rows.now }
-    ensures bridge { IsFirstBridge (rows_of rows.now) place result }
+    ensures bridge { result ≡ first_bridge (rows_of rows.now) place }
+    ensures within { result ≤ length rows.now }
     ensures visits { VisitsWithin 12 (length rows.now) steps.old steps.new }
 {
     let range = rows.measure(place, rows.len(), steps);
@@ -77,9 +79,7 @@ pub(crate) fn greatest_dead<L: Ledger>(
 ) -> Option<u32>
     requires marked { AreMarked (survivors (rows_of rows.now)) rows.now }
     requires within { bridge ≤ length rows.now }
-    ensures dead { MatchOption result
-        ((entry : Entry) → ¬ IsDeadFrom (rows_of rows.now) bridge entry)
-        (λ place. (entry : Entry) × AddsAt (rows_of rows.now) place entry × IsGreatest (IsDeadFrom (rows_of rows.now) bridge) entry) }
+    ensures dead { FindsRow (rows_of rows.now) (greatest_dead (rows_of rows.now) bridge) result }
     ensures visits { VisitsWithin 12 (length rows.now) steps.old steps.new }
 {
     let range = rows.measure(bridge, rows.len(), steps);
@@ -95,9 +95,7 @@ pub(crate) fn least_survivor<L: Ledger>(
 ) -> Option<u32>
     requires marked { AreMarked (survivors (rows_of rows.now)) rows.now }
     requires within { bridge ≤ length rows.now }
-    ensures survivor { MatchOption result
-        ((entry : Entry) → ¬ IsSurvivorBefore (rows_of rows.now) bridge entry)
-        (λ place. (entry : Entry) × AddsAt (rows_of rows.now) place entry × IsLeast (IsSurvivorBefore (rows_of rows.now) bridge) entry) }
+    ensures survivor { FindsRow (rows_of rows.now) (least_survivor (rows_of rows.now) bridge) result }
     ensures visits { VisitsWithin 12 (length rows.now) steps.old steps.new }
 {
     let range = rows.measure(0, bridge, steps);

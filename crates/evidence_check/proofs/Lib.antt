@@ -1,4 +1,3 @@
-pub mod Members
 pub mod Best
 pub mod Marking
 pub mod Weighing
@@ -10,7 +9,6 @@ pub mod Marks
 pub mod TellingRows
 pub mod TellingLists
 pub mod ChangesRead
-pub mod ChangeCauses
 pub mod TrueEvidence
 pub mod Timeless
 pub mod EditsReported

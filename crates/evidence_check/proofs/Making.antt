@@ -6,15 +6,16 @@ use Rattle.std.proofs.lemmas.Bool.Decides.{nat_tests}
 use Rattle.retro_base.specs.declared.row.Entry.{Entry}
 use Rattle.retro_base.specs.ChangeLaws.{OneChangeOfPq}
 use Rattle.retro_base.specs.Limits.{most_rows}
+use Rattle.retro_base.specs.MarkedChange.{marked_change}
 use Rattle.retro_base.specs.Weights.{added_as}
 use Rattle.evidence.specs.declared.evidence.Evidence.{Evidence}
 use Rattle.evidence.specs.Evidence.{IsEvidence}
 use Rattle.evidence_check.specs.declared.weighed_row.WeighedRow.{WeighedRow}
 use Rattle.evidence_check.specs.Changed.{IsChanged, changed_entry, is_gain, marked_where, moved_place}
 use Rattle.evidence_check.specs.KeptNumbers.{AreWeighed, AreNumbers}
-use Rattle.evidence_check.specs.Marks.{MarksSurvivors, changed_marks, edited_rows, entry_of, marked_change, weighed_row, rows_of}
+use Rattle.evidence_check.specs.Marks.{MarksSurvivors, changed_marks, edited_rows, entry_of, weighed_row, rows_of}
 use Rattle.evidence_check.specs.Parts.{marked_at, shows_at}
-use Rattle.evidence_check.specs.Truth.{cause_of, has_number, has_wrong_number, has_wrong_op, is_outside}
+use Rattle.evidence_check.specs.Truth.{cause_of, has_number, has_wrong_number, has_wrong_op, is_outside, reported_edit, reported_row}
 use Rattle.evidence_check.proofs.Accepted.{Accepted, accepted_from}
 use Rattle.evidence_check.proofs.Flat.{length_insert, length_marked}
 use Rattle.evidence_check.proofs.Marks.{kept_after}
@@ -62,9 +63,9 @@ module _ (old : List WeighedRow) (e : Evidence) (kept : MarksSurvivors old) (is 
       let op : has_wrong_op false e.op e.place (rows_of old) ≡ false = rw cuts at accepted.op in
       cut_there old e.place e.number e.op (possible old kept false e.place e.number e.op is.op inside (number_cut cuts) op).within
 
-  module _ (read : marked_change old e.added e.place (added_as e.op e.number) ≡ Some e.change) (changed : Option ℕ) (shows : IsChanged old e changed) where
+  module _ (read : marked_change (rows_of old) (reported_edit e) ≡ Some e.change) (changed : Option ℕ) (shows : IsChanged old e changed) where
     entry : (entry : Entry) × (changed_entry e.change ≡ Some entry)
-    entry = names_entry old e.added e.place (added_as e.op e.number) e.change read
+    entry = names_entry (rows_of old) e.added e.place (reported_row e) e.change read
 
     pub changed_inside : IfSome changed (λ place. place < length old)
     changed_inside = inside changed shows

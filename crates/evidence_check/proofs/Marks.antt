@@ -1,5 +1,5 @@
 -- Rows keep their marks after an edit.
-use Rattle.std.proofs.Common.{◌≡◌, ℕ, Bool, true, false, List, [], ◌∷◌, length, map, refl, sym, ap, ◌∙◌, arith, Option, Some, None}
+use Rattle.std.proofs.Common.{◌≡◌, ℕ, Bool, true, false, ◌||◌, List, [], ◌∷◌, length, map, refl, sym, ap, ◌∙◌, arith, Option, Some, None}
 use Rattle.std.specs.Option.{option_map_or}
 use Rattle.std.specs.List.{AllByRecursion}
 use Rattle.std.proofs.lemmas.Bool.{leb-false, ltb-false}
@@ -19,9 +19,11 @@ use Rattle.retro_base.specs.Limits.{most_rows}
 use Rattle.retro_base.specs.OrderLaws.{all_with, all_without}
 use Rattle.retro_base.specs.Replay.{fold_rows}
 use Rattle.retro_base.specs.ReplayableLaws.{replayable_with, replayable_without}
-use Rattle.retro_base.specs.State.{with_entry}
+use Rattle.retro_base.specs.State.{comes_before, with_entry}
 use Rattle.retro_base.specs.Timeline.{AreOfKind, IsFresh, IsReplayable}
+use Rattle.retro_base.specs.lemmas.bridges.Entries.{in_contains}
 use Rattle.retro_base.specs.lemmas.bridges.EntryOrder.{same_entry-same, same_entry-refl}
+use Rattle.retro_base.specs.lemmas.bridges.Tests.{not_among}
 use Rattle.evidence.specs.declared.evidence.Evidence.{Evidence}
 use Rattle.evidence.specs.Evidence.{IsEvidence, IsPqOp}
 use Rattle.evidence_check.specs.declared.weighed_row.WeighedRow.{WeighedRow}
@@ -30,7 +32,7 @@ use Rattle.evidence_check.specs.Truth.{cause_of, edit_with, is_full, is_outside,
 use Rattle.evidence_check.proofs.Accepted.{accepted_from}
 use Rattle.evidence_check.proofs.Survivors.{fresh_entry}
 use Rattle.evidence_check.proofs.Marking.{insert_rows, length_rows, remove_rows}
-use Rattle.evidence_check.proofs.Members.{absent_among, among_with}
+use Rattle.evidence_check.proofs.KeptNumbers.{swapped}
 use Rattle.evidence_check.proofs.Possible.{is_fresh, of_pq, possible}
 
 pub nothing_kept : MarksSurvivors []
@@ -50,6 +52,15 @@ other_way a b other = elim (same_entry b a) as (λ t. same_entry b a ≡ t → t
   | true ↦ λ same. let wrong : true ≡ false = sym (same_entry-refl a) ∙ ap (same_entry a) (sym (same_entry-same b a same)) ∙ other in absurd (cc)
   | false ↦ λ differs. refl
 ] refl
+
+-- among entries with one more
+pub among_with : (x new : Entry) (held : List Entry) → is_among (with_entry new held) x ≡ (same_entry x new || is_among held x)
+among_with x new [] = refl
+among_with x new (first ∷ others) =
+    elim (comes_before new first) as (λ b. comes_before new first ≡ b → is_among (with_entry new (first ∷ others)) x ≡ (same_entry x new || is_among (first ∷ others) x)) [
+      | true ↦ λ before. rw before refl
+      | false ↦ λ after. rw (after, among_with x new others) (swapped (same_entry x first) (same_entry x new) (is_among others x))
+    ] refl
 
 -- the mark of an entry, where one more survives: the one that came in, and another
 module _ (entry : Entry) (fewer : List Entry) where
@@ -125,7 +136,7 @@ marks_changed (Gain bridge entry) rows e marked is marks =
     rw is.1.joined (all_map (IsMarked (survivors rows)) (IsMarked (with_entry entry (survivors rows))) (with_mark entry true) marked (mark_gained entry (survivors rows)) marks)
 marks_changed (Lose bridge entry) rows e marked is marks =
     all_map (IsMarked (with_entry entry (survivors (rows_after rows e)))) (IsMarked (survivors (rows_after rows e))) (with_mark entry false) marked
-    (mark_lost entry (survivors (rows_after rows e)) (absent_among entry (survivors (rows_after rows e)) is.1.absent)) (rw is.1.joined at marks)
+    (mark_lost entry (survivors (rows_after rows e)) (not_among entry (survivors (rows_after rows e)) (λ inside. is.1.absent (in_contains (survivors (rows_after rows e)) entry inside)))) (rw is.1.joined at marks)
 
 replayable_after : (rows : List Row) → IsReplayable Pq rows → (added : Bool) (place number : ℕ) (op : Op) → IsPqOp op → is_full added rows ≡ false → is_outside added place rows ≡ false
     → has_wrong_number added number place rows ≡ false → IsAccepted Pq rows (edit_with added place (record { number = number; time = 0; op = op }))

@@ -18,7 +18,7 @@ use Rattle.evidence_check.specs.declared.weighed_row.WeighedRow.{WeighedRow}
 use Rattle.evidence_check.specs.Marks.{MarksSurvivors, rows_of}
 use Rattle.evidence_check.specs.Truth.{edit_with, fails_at, has_number, has_wrong_number, has_wrong_op, is_outside, same_op}
 use Rattle.evidence_check.proofs.Weighing.{history}
-use Rattle.evidence_check.proofs.Best.{some_same}
+use Rattle.retro_base.specs.Facts.{one_value}
 use Rattle.retro_base.specs.Facts.{either_false}
 
 pub of_pq : (op : Op) → IsPqOp op → kind_of op ≡ Pq
@@ -56,7 +56,7 @@ cut_row rows place number op timeless is right_number right_op =
     let by_number = holds_at (λ r. r.number == number) (slice_get rows place) right_number in
     let by_op = holds_at (λ r. same_op r.op op) (slice_get rows place) right_op in
     let row : Row = by_number.0 in
-    let one : by_op.0 ≡ row = some_same _ _ _ by_op.1 by_number.1 in
+    let one : by_op.0 ≡ row = one_value _ _ _ by_op.1 by_number.1 in
     let number_is : row.number ≡ number = (Decides-eqb row.number number).0 by_number.2 in
     let time_is : row.time ≡ 0 = all_at (λ r. r.time ≡ 0) rows place row timeless by_number.1 in
     let op_is : row.op ≡ op = same_op_is row.op op is (ap (λ r. same_op r.op op) (sym one) ∙ by_op.2) in

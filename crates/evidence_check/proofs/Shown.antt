@@ -1,77 +1,22 @@
--- What marked rows show: the dead entries that rows add, and the survivors among them.
-use Rattle.std.proofs.Common.{◌≡◌, ℕ, zero, suc, Bool, true, false, cond, List, [], ◌∷◌, take, drop, sym, ap, ◌∙◌, inl, inr, Option, Some, None}
-use Rattle.std.specs.Prelude.{◌⊎◌}
-use Rattle.std.specs.Option.{option_map_or}
-use Rattle.std.specs.List.{AllByRecursion, cons_option}
-use Rattle.retro_base.specs.declared.row.Entry.{Entry}
-use Rattle.retro_base.specs.Bridges.{is_among, survivors}
-use Rattle.retro_base.specs.BridgeTable.{added, IsDeadFrom, IsSurvivorBefore}
+-- What marked rows show is what the definition of the change reads off the rows.
+use Rattle.std.proofs.Common.{◌≡◌, ℕ, zero, suc, Bool, true, false, List, [], ◌∷◌, take, drop, refl, sym, ap, ◌∙◌, Some, None}
+use Rattle.std.specs.Prelude.{slice_get, option_map}
+use Rattle.std.specs.List.{AllByRecursion}
+use Rattle.std.proofs.lemmas.Option.{slice_get-map}
+use Rattle.retro_base.specs.declared.row.Row.{Row}
+use Rattle.retro_base.specs.Better.{comes_after, best_among}
+use Rattle.retro_base.specs.Bridges.{survivors}
+use Rattle.retro_base.specs.Carried.{IsPqEdit}
+use Rattle.retro_base.specs.MarkedChange.{is_one_of, dead_in, alive_in}
+use Rattle.retro_base.specs.MarkedChange as change
+use Rattle.retro_base.specs.OrderLaws.{all_at}
+use Rattle.retro_base.specs.State.{comes_before}
+use Rattle.retro_base.specs.Weights.{added_by}
+use Rattle.retro_base.specs.lemmas.bridges.Best.{best_marked}
 use Rattle.evidence_check.specs.declared.weighed_row.WeighedRow.{WeighedRow}
-use Rattle.evidence_check.specs.Marks.{MarksSurvivors, IsMarked, alive_entry, dead_entry, entry_of, rows_of}
-use Rattle.evidence_check.proofs.Best.{Shown}
-use Rattle.evidence_check.proofs.Members.{In, contains_in, in_contains, absent_among, among_absent, among_contains, contains_among}
+use Rattle.evidence_check.specs.Marks.{MarksSurvivors, IsMarked, alive_entry, dead_entry, entry_of, greatest_dead, is_alive_at, least_alive, unweighed, rows_of}
+use Rattle.evidence_check.specs.Truth.{edit_with}
 use Rattle.evidence_check.proofs.Marking.{take_rows, drop_rows}
-
--- one entry more, where there is one
-pub in_more : (o : Option Entry) (xs : List Entry) (e : Entry) → (o ≡ Some e) ⊎ In e xs → In e (cons_option o xs)
-in_more None xs e inside = elim inside [ inl here ↦ absurd (cc) | inr further ↦ further ]
-in_more (Some x) xs e inside = elim inside [ inl here ↦ inl (let same : e ≡ x = cc in same) | inr further ↦ inr further ]
-
-more_in : (o : Option Entry) (xs : List Entry) (e : Entry) → In e (cons_option o xs) → (o ≡ Some e) ⊎ In e xs
-more_in None xs e inside = inr inside
-more_in (Some x) xs e inside = elim inside [ inl same ↦ inl (ap Some (sym same)) | inr further ↦ inr further ]
-
--- a mark says of its entry whether it survives
-record Reported (survive : List Entry) (o : Option Entry) (e : Entry) (lives : Bool) : Type 0 where
-  entry : o ≡ Some e
-  among : is_among survive e ≡ lives
-
-dead_reported : (survive : List Entry) (mark : Bool) (o : Option Entry) (e : Entry) → mark ≡ option_map_or (is_among survive) o false → cond mark None o ≡ Some e → Reported survive o e false
-dead_reported survive true o e marks shown = absurd (cc)
-dead_reported survive false o e marks shown = record { entry = shown; among = sym (rw shown at marks) }
-
-reported_dead : (survive : List Entry) (mark : Bool) (o : Option Entry) (e : Entry) → mark ≡ option_map_or (is_among survive) o false → o ≡ Some e → is_among survive e ≡ false → cond mark None o ≡ Some e
-reported_dead survive mark o e marks entry among =
-    let dead : mark ≡ false = marks ∙ ap (λ x. option_map_or (is_among survive) x false) entry ∙ among in
-    rw dead entry
-
-alive_reported : (survive : List Entry) (mark : Bool) (o : Option Entry) (e : Entry) → mark ≡ option_map_or (is_among survive) o false → cond mark o None ≡ Some e → Reported survive o e true
-alive_reported survive true o e marks shown = record { entry = shown; among = sym (rw shown at marks) }
-alive_reported survive false o e marks shown = absurd (cc)
-
-reported_alive : (survive : List Entry) (mark : Bool) (o : Option Entry) (e : Entry) → mark ≡ option_map_or (is_among survive) o false → o ≡ Some e → is_among survive e ≡ true → cond mark o None ≡ Some e
-reported_alive survive mark o e marks entry among =
-    let alive : mark ≡ true = marks ∙ ap (λ x. option_map_or (is_among survive) x false) entry ∙ among in
-    rw alive entry
-
-module _ (survive : List Entry) (e : Entry) where
-  dead_shown : (marked : List WeighedRow) → AllByRecursion (IsMarked survive) marked → Shown dead_entry marked e → In e (added (rows_of marked)) × (is_among survive e ≡ false)
-  dead_shown [] marks shown = absurd shown
-  dead_shown (first ∷ others) marks shown = elim shown [
-    | inl here ↦ let reported = dead_reported survive first.alive (entry_of first) e marks.0 here in (in_more (entry_of first) (added (rows_of others)) e (inl reported.entry), reported.among)
-    | inr further ↦ let rest = dead_shown others marks.1 further in (in_more (entry_of first) (added (rows_of others)) e (inr rest.0), rest.1)
-  ]
-
-  shown_dead : (marked : List WeighedRow) → AllByRecursion (IsMarked survive) marked → In e (added (rows_of marked)) → is_among survive e ≡ false → Shown dead_entry marked e
-  shown_dead [] marks inside among = absurd inside
-  shown_dead (first ∷ others) marks inside among = elim (more_in (entry_of first) (added (rows_of others)) e inside) [
-    | inl here ↦ inl (reported_dead survive first.alive (entry_of first) e marks.0 here among)
-    | inr further ↦ inr (shown_dead others marks.1 further among)
-  ]
-
-  pub alive_shown : (marked : List WeighedRow) → AllByRecursion (IsMarked survive) marked → Shown alive_entry marked e → In e (added (rows_of marked)) × (is_among survive e ≡ true)
-  alive_shown [] marks shown = absurd shown
-  alive_shown (first ∷ others) marks shown = elim shown [
-    | inl here ↦ let reported = alive_reported survive first.alive (entry_of first) e marks.0 here in (in_more (entry_of first) (added (rows_of others)) e (inl reported.entry), reported.among)
-    | inr further ↦ let rest = alive_shown others marks.1 further in (in_more (entry_of first) (added (rows_of others)) e (inr rest.0), rest.1)
-  ]
-
-  pub shown_alive : (marked : List WeighedRow) → AllByRecursion (IsMarked survive) marked → In e (added (rows_of marked)) → is_among survive e ≡ true → Shown alive_entry marked e
-  shown_alive [] marks inside among = absurd inside
-  shown_alive (first ∷ others) marks inside among = elim (more_in (entry_of first) (added (rows_of others)) e inside) [
-    | inl here ↦ inl (reported_alive survive first.alive (entry_of first) e marks.0 here among)
-    | inr further ↦ inr (shown_alive others marks.1 further among)
-  ]
 
 all_take : {X : Type 0} (P : X → Type 0) (n : ℕ) (xs : List X) → AllByRecursion P xs → AllByRecursion P (take n xs)
 all_take P zero xs all = tt
@@ -83,24 +28,32 @@ all_drop P zero xs all = all
 all_drop P (suc n) [] all = tt
 all_drop P (suc n) (x ∷ xs) all = all_drop P n xs all.1
 
--- in the words of the table
-module _ (marked : List WeighedRow) (kept : MarksSurvivors marked) (bridge : ℕ) (e : Entry) where
-  pub is_dead_from : Shown dead_entry (drop bridge marked) e → IsDeadFrom (rows_of marked) bridge e
-  is_dead_from shown =
-      let reported = dead_shown (survivors (rows_of marked)) e (drop bridge marked) (all_drop (IsMarked (survivors (rows_of marked))) bridge marked kept.marks) shown in
-      (rw (drop_rows bridge marked) (in_contains (added (rows_of (drop bridge marked))) e reported.0), among_absent e (survivors (rows_of marked)) reported.1)
+module _ (marked : List WeighedRow) (kept : MarksSurvivors marked) (place : ℕ) where
+  pub greatest_is : greatest_dead (drop place marked) ≡ change.greatest_dead (rows_of marked) place
+  greatest_is =
+      best_marked (IsMarked (survivors (rows_of marked))) comes_before unweighed dead_entry (change.dead_entry (survivors (rows_of marked))) (λ row marks. ap (λ b. dead_in b (entry_of row)) marks) None
+      (drop place marked) (all_drop (IsMarked (survivors (rows_of marked))) place marked kept.marks)
+      ∙ ap (best_among comes_before (change.dead_entry (survivors (rows_of marked))) None) (sym (drop_rows place marked))
 
-  pub dead_from_shown : IsDeadFrom (rows_of marked) bridge e → Shown dead_entry (drop bridge marked) e
-  dead_from_shown is =
-      shown_dead (survivors (rows_of marked)) e (drop bridge marked) (all_drop (IsMarked (survivors (rows_of marked))) bridge marked kept.marks)
-      (contains_in (added (rows_of (drop bridge marked))) e (rw (drop_rows bridge marked) at is.0)) (absent_among e (survivors (rows_of marked)) is.1)
+  pub least_is : least_alive (take place marked) ≡ change.least_survivor (rows_of marked) place
+  least_is =
+      best_marked (IsMarked (survivors (rows_of marked))) comes_after unweighed alive_entry (change.alive_entry (survivors (rows_of marked))) (λ row marks. ap (λ b. alive_in b (entry_of row)) marks) None
+      (take place marked) (all_take (IsMarked (survivors (rows_of marked))) place marked kept.marks)
+      ∙ ap (best_among comes_after (change.alive_entry (survivors (rows_of marked))) None) (sym (take_rows place marked))
 
-  pub is_survivor_before : Shown alive_entry (take bridge marked) e → IsSurvivorBefore (rows_of marked) bridge e
-  is_survivor_before shown =
-      let reported = alive_shown (survivors (rows_of marked)) e (take bridge marked) (all_take (IsMarked (survivors (rows_of marked))) bridge marked kept.marks) shown in
-      (rw (take_rows bridge marked) (in_contains (added (rows_of (take bridge marked))) e reported.0), among_contains e (survivors (rows_of marked)) reported.1)
+  -- the entry of the row at the place survives where its mark says so
+  pub mark_at : (row : Row) → slice_get (rows_of marked) place ≡ Some row → is_alive_at marked place ≡ is_one_of (survivors (rows_of marked)) (added_by row)
+  mark_at row there =
+      elim (slice_get marked place) as (λ o. slice_get marked place ≡ o → is_alive_at marked place ≡ is_one_of (survivors (rows_of marked)) (added_by row)) [
+        | None ↦ λ none. let wrong : None ≡ Some row = ap (option_map unweighed) (sym none) ∙ sym (slice_get-map unweighed marked place) ∙ there in absurd (cc)
+        | Some m ↦ λ is.
+            let one : Some (unweighed m) ≡ Some row = ap (option_map unweighed) (sym is) ∙ sym (slice_get-map unweighed marked place) ∙ there in
+            let same : unweighed m ≡ row = cc in
+            rw is (all_at (IsMarked (survivors (rows_of marked))) marked place m kept.marks is ∙ ap (λ r. is_one_of (survivors (rows_of marked)) (added_by r)) same)
+      ] refl
 
-  pub survivor_before_shown : IsSurvivorBefore (rows_of marked) bridge e → Shown alive_entry (take bridge marked) e
-  survivor_before_shown is =
-      shown_alive (survivors (rows_of marked)) e (take bridge marked) (all_take (IsMarked (survivors (rows_of marked))) bridge marked kept.marks)
-      (contains_in (added (rows_of (take bridge marked))) e (rw (take_rows bridge marked) at is.0)) (contains_among e (survivors (rows_of marked)) is.1)
+-- so the change of a row that is cut, by its mark
+pub mark_cut : (marked : List WeighedRow) → MarksSurvivors marked → (added : Bool) (place : ℕ) (row : Row) → IsPqEdit (rows_of marked) (edit_with added place row) → added ≡ false
+    → is_alive_at marked place ≡ is_one_of (survivors (rows_of marked)) (added_by row)
+mark_cut marked kept true place row possible is = absurd (cc)
+mark_cut marked kept false place row possible is = mark_at marked kept place row possible.within

@@ -4,13 +4,14 @@ use Rattle.std.specs.Prelude.{◌+ℤ◌, ◌≤ℤ◌}
 use Rattle.std.proofs.lemmas.Bool.Decides.{nat_tests}
 use Rattle.std.proofs.lemmas.Int.{ints}
 use Rattle.retro_base.specs.declared.row.Entry.{Entry}
-use Rattle.retro_base.specs.lemmas.bridges.EntryOrder.{before_irreflexive, before_one_way, not_before_later}
+use Rattle.retro_base.specs.lemmas.bridges.Best.{before_is_order, after_is_order}
 use Rattle.evidence_check.specs.declared.weighed_row.WeighedRow.{WeighedRow}
 use Rattle.evidence_check.specs.declared.sums.Sums.{Sums}
-use Rattle.evidence_check.specs.Marks.{alive_entry, dead_entry, entry_of, greatest_dead, is_greater, is_less, least_alive, better_of}
+use Rattle.retro_base.specs.Better.{comes_after, better_of}
+use Rattle.retro_base.specs.State.{comes_before}
+use Rattle.evidence_check.specs.Marks.{alive_entry, dead_entry, entry_of, greatest_dead, least_alive}
 use Rattle.evidence_check.specs.Sums.{AreBounded, joined, lesser, low_of, sum_of, sums_of, weight_by, weight_of}
 use Rattle.evidence_check.proofs.Best.{best-join}
-use Rattle.evidence_check.proofs.ChangesRead.{turned_on, turned_way}
 
 -- a weight is at most 1, up or down
 weight-up : (alive : Bool) (o : Option Entry) → weight_by alive o ≤ℤ pos 1
@@ -65,11 +66,11 @@ low-join [] ys = lesser-one (low_of ys) (low-up ys)
 low-join (x ∷ xs) ys =
     ap (λ n. lesser (weight_of x) (weight_of x +ℤ n)) (low-join xs ys) ∙ lesser-moved (weight_of x) (low_of xs) (sum_of xs) (low_of ys)
 
-pub dead-join : (xs ys : List WeighedRow) → greatest_dead None (xs ++ ys) ≡ better_of is_less (greatest_dead None xs) (greatest_dead None ys)
-dead-join xs ys = best-join is_less before_irreflexive not_before_later before_one_way dead_entry xs ys
+pub dead-join : (xs ys : List WeighedRow) → greatest_dead (xs ++ ys) ≡ better_of comes_before (greatest_dead xs) (greatest_dead ys)
+dead-join xs ys = best-join comes_before before_is_order dead_entry xs ys
 
-pub alive-join : (xs ys : List WeighedRow) → least_alive (xs ++ ys) ≡ better_of is_greater (least_alive xs) (least_alive ys)
-alive-join xs ys = best-join is_greater before_irreflexive turned_on turned_way alive_entry xs ys
+pub alive-join : (xs ys : List WeighedRow) → least_alive (xs ++ ys) ≡ better_of comes_after (least_alive xs) (least_alive ys)
+alive-join xs ys = best-join comes_after after_is_order alive_entry xs ys
 
 pub same_sums : (n m : ℕ) (s t l k : ℤ) (d e a b : Option Entry) → n ≡ m → s ≡ t → l ≡ k → d ≡ e → a ≡ b
     → ◌≡◌ {A = Sums} (record { rows = n; sum = s; low = l; dead = d; alive = a }) (record { rows = m; sum = t; low = k; dead = e; alive = b })

@@ -14,7 +14,8 @@ use Rattle.retro_base.specs.State.{entries, perform, comes_before, with_entry}
 use Rattle.retro_base.specs.Timeline.{AreOfKind, IsFresh}
 use Rattle.retro_base.specs.Weights.{added_as, added_by}
 use Rattle.retro_base.specs.lemmas.bridges.Histories.{added_number}
-use Rattle.evidence_check.proofs.Members.{In, is_among_in}
+use Rattle.retro_base.specs.lemmas.bridges.Entries.{In}
+use Rattle.retro_base.specs.lemmas.bridges.Tests.{is_among_in}
 use Rattle.retro_base.specs.Outcomes.{same_state}
 
 module _ (P : Entry → Type 0) where

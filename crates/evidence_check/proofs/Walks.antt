@@ -12,7 +12,9 @@ use Rattle.retro_base.specs.Limits.{most_rows}
 use Rattle.retro_base.specs.lemmas.bridges.EntryOrder.{same_entry-same, same_entry-refl}
 use Rattle.evidence_check.specs.declared.weighed_row.WeighedRow.{WeighedRow}
 use Rattle.evidence_check.specs.declared.sums.Sums.{Sums}
-use Rattle.evidence_check.specs.Marks.{better_of, greatest_dead, is_greater, is_less, least_alive}
+use Rattle.retro_base.specs.Better.{comes_after, better_of}
+use Rattle.retro_base.specs.State.{comes_before}
+use Rattle.evidence_check.specs.Marks.{greatest_dead, least_alive}
 use Rattle.evidence_check.specs.Parts.{is_entry, shows_at}
 use Rattle.evidence_check.specs.Sums.{HasRoom, joined, sum_of, sums_of}
 use Rattle.evidence_check.specs.Zeros.{HasNoZero, IsFirstZero, IsLastZero, IsZero}
@@ -74,35 +76,35 @@ module _ {P : Type 0} (f : P → List WeighedRow) (parts : List P) (index : ℕ)
   sums_next sums other of_first of_part =
       ap (λ s. joined s other) of_first ∙ ap (joined (sums_of first)) of_part ∙ sym (sums-join first (f part)) ∙ ap sums_of (sym next)
 
-  pub dead_next : (from passed : ℕ) (greatest found : Option Entry) → passed ≡ length first → greatest ≡ greatest_dead None (drop from first)
-      → found ≡ greatest_dead None (drop (from - passed) (f part)) → better_of is_less greatest found ≡ greatest_dead None (drop from (flat_map f (take (index + 1) parts)))
+  pub dead_next : (from passed : ℕ) (greatest found : Option Entry) → passed ≡ length first → greatest ≡ greatest_dead (drop from first)
+      → found ≡ greatest_dead (drop (from - passed) (f part)) → better_of comes_before greatest found ≡ greatest_dead (drop from (flat_map f (take (index + 1) parts)))
   dead_next from passed greatest found long is_greatest is_found =
-      ap (λ o. better_of is_less o found) is_greatest
-      ∙ ap (better_of is_less (greatest_dead None (drop from first))) (is_found ∙ ap (λ n. greatest_dead None (drop (from - n) (f part))) long)
-      ∙ sym (dead-join (drop from first) (drop (from - length first) (f part))) ∙ ap (greatest_dead None) (sym (drop-join from first (f part)))
-      ∙ ap (λ l. greatest_dead None (drop from l)) (sym next)
+      ap (λ o. better_of comes_before o found) is_greatest
+      ∙ ap (better_of comes_before (greatest_dead (drop from first))) (is_found ∙ ap (λ n. greatest_dead (drop (from - n) (f part))) long)
+      ∙ sym (dead-join (drop from first) (drop (from - length first) (f part))) ∙ ap (greatest_dead) (sym (drop-join from first (f part)))
+      ∙ ap (λ l. greatest_dead (drop from l)) (sym next)
 
   pub alive_next : (to passed : ℕ) (least found : Option Entry) → passed ≡ length first → least ≡ least_alive (take to first)
-      → found ≡ least_alive (take (to - passed) (f part)) → better_of is_greater least found ≡ least_alive (take to (flat_map f (take (index + 1) parts)))
+      → found ≡ least_alive (take (to - passed) (f part)) → better_of comes_after least found ≡ least_alive (take to (flat_map f (take (index + 1) parts)))
   alive_next to passed least found long is_least is_found =
-      ap (λ o. better_of is_greater o found) is_least
-      ∙ ap (better_of is_greater (least_alive (take to first))) (is_found ∙ ap (λ n. least_alive (take (to - n) (f part))) long)
+      ap (λ o. better_of comes_after o found) is_least
+      ∙ ap (better_of comes_after (least_alive (take to first))) (is_found ∙ ap (λ n. least_alive (take (to - n) (f part))) long)
       ∙ sym (alive-join (take to first) (take (to - length first) (f part))) ∙ ap least_alive (sym (take-join to first (f part)))
       ∙ ap (λ l. least_alive (take to l)) (sym next)
 
-  pub no_dead_next : (from passed : ℕ) (entry : Entry) (found : Option Entry) → passed ≡ length first → is_entry (greatest_dead None (drop from first)) entry ≡ false
-      → found ≡ greatest_dead None (drop (from - passed) (f part)) → is_entry found entry ≡ false
-      → is_entry (greatest_dead None (drop from (flat_map f (take (index + 1) parts)))) entry ≡ false
+  pub no_dead_next : (from passed : ℕ) (entry : Entry) (found : Option Entry) → passed ≡ length first → is_entry (greatest_dead (drop from first)) entry ≡ false
+      → found ≡ greatest_dead (drop (from - passed) (f part)) → is_entry found entry ≡ false
+      → is_entry (greatest_dead (drop from (flat_map f (take (index + 1) parts)))) entry ≡ false
   no_dead_next from passed entry found long before is_found other =
-      ap (λ o. is_entry o entry) (sym (dead_next from passed (greatest_dead None (drop from first)) found long refl is_found))
-      ∙ neither is_less (greatest_dead None (drop from first)) found entry before other
+      ap (λ o. is_entry o entry) (sym (dead_next from passed (greatest_dead (drop from first)) found long refl is_found))
+      ∙ neither comes_before (greatest_dead (drop from first)) found entry before other
 
   pub no_alive_next : (to passed : ℕ) (entry : Entry) (found : Option Entry) → passed ≡ length first → is_entry (least_alive (take to first)) entry ≡ false
       → found ≡ least_alive (take (to - passed) (f part)) → is_entry found entry ≡ false
       → is_entry (least_alive (take to (flat_map f (take (index + 1) parts)))) entry ≡ false
   no_alive_next to passed entry found long before is_found other =
       ap (λ o. is_entry o entry) (sym (alive_next to passed (least_alive (take to first)) found long refl is_found))
-      ∙ neither is_greater (least_alive (take to first)) found entry before other
+      ∙ neither comes_after (least_alive (take to first)) found entry before other
 
   -- what a part shows
   pub shown_there : (shown : WeighedRow → Option Entry) (passed place : ℕ) (entry : Entry) → passed ≡ length first → shows_at shown (f part) place ≡ Some entry

@@ -20,7 +20,8 @@ use Rattle.retro_base.specs.Carried.{IsPqHistory}
 use Rattle.retro_base.specs.Weights.{added_by, dead_at, weight, weight_as}
 use Rattle.evidence_check.specs.declared.weighed_row.WeighedRow.{WeighedRow}
 use Rattle.evidence_check.proofs.Marking.{length_rows, take_rows}
-use Rattle.evidence_check.proofs.Members.{In, in_is_among}
+use Rattle.retro_base.specs.lemmas.bridges.Entries.{In}
+use Rattle.retro_base.specs.lemmas.bridges.Tests.{in_is_among}
 use Rattle.evidence_check.specs.Marks.{MarksSurvivors, IsMarked, entry_of, rows_of}
 use Rattle.evidence_check.specs.Sums.{sum_of, weight_by, weight_of}
 use Rattle.evidence_check.specs.Zeros.{IsFirstZero, IsLastZero, IsZero}

@@ -5,7 +5,9 @@ use Rattle.retro_base.specs.declared.row.Entry.{Entry}
 use Rattle.retro_base.specs.Limits.{most_rows}
 use Rattle.evidence_check.specs.declared.weighed_row.WeighedRow.{WeighedRow}
 use Rattle.evidence_check.specs.declared.sums.Sums.{Sums}
-use Rattle.evidence_check.specs.Marks.{better_of, entry_of, greatest_dead, is_greater, is_less, least_alive}
+use Rattle.retro_base.specs.Better.{comes_after, better_of}
+use Rattle.retro_base.specs.State.{comes_before}
+use Rattle.evidence_check.specs.Marks.{entry_of, greatest_dead, least_alive}
 
 -- the weight of a row, by its mark: 0 where its entry survives, 1 where it is dead, and -1 where it takes one
 abbrev pub weight_by : Bool → Option Entry → ℤ
@@ -30,7 +32,7 @@ low_of (first ∷ others) = lesser (weight_of first) (weight_of first +ℤ low_o
 
 -- the sums of rows
 abbrev pub sums_of : List WeighedRow → Sums
-sums_of marked = record { rows = length marked; sum = sum_of marked; low = low_of marked; dead = greatest_dead None marked; alive = least_alive marked }
+sums_of marked = record { rows = length marked; sum = sum_of marked; low = low_of marked; dead = greatest_dead marked; alive = least_alive marked }
 
 -- the sums of rows and then others, by those of each
 abbrev pub joined : Sums → Sums → Sums
@@ -38,8 +40,8 @@ joined sums other = record {
   rows = sums.rows + other.rows;
   sum = sums.sum +ℤ other.sum;
   low = lesser sums.low (sums.sum +ℤ other.low);
-  dead = better_of is_less sums.dead other.dead;
-  alive = better_of is_greater sums.alive other.alive;
+  dead = better_of comes_before sums.dead other.dead;
+  alive = better_of comes_after sums.alive other.alive;
 }
 
 -- a number keeps within the most rows where so many more are counted, up or down

@@ -1,13 +1,14 @@
 //! The better one of two entries that may be there.
 
 ghost use Rattle.std.specs.Prelude.{◌≡◌};
-ghost use Rattle.evidence_check.specs.Marks.{better_of, is_greater, is_less};
+ghost use Rattle.retro_base.specs.Better.{comes_after, better_of};
+ghost use Rattle.retro_base.specs.State.{comes_before};
 
 use retro_base::Entry;
 
 /// The greater one.
 pub(crate) fn later_of(best: Option<Entry>, entry: Option<Entry>) -> Option<Entry>
-    ensures { result ≡ better_of is_less best entry }
+    ensures { result ≡ better_of comes_before best entry }
 {
     match (best, entry) {
         (_, None) => best,
@@ -24,7 +25,7 @@ pub(crate) fn later_of(best: Option<Entry>, entry: Option<Entry>) -> Option<Entr
 
 /// The lesser one.
 pub(crate) fn earlier_of(best: Option<Entry>, entry: Option<Entry>) -> Option<Entry>
-    ensures { result ≡ better_of is_greater best entry }
+    ensures { result ≡ better_of comes_after best entry }
 {
     match (best, entry) {
         (_, None) => best,

@@ -1,11 +1,12 @@
 //! What an edit changes, read off the marks of the rows before it.
 
 ghost use Rattle.std.specs.Prelude.{◌≡◌, ◌≤◌, None, Some, false, length};
+ghost use Rattle.retro_base.specs.Bridges.{first_bridge, last_bridge};
 ghost use Rattle.retro_base.specs.Carried.{IsPqEdit};
 ghost use Rattle.retro_base.specs.Limits.{most_rows};
-ghost use Rattle.retro_base.specs.Weights.{added_as};
+ghost use Rattle.retro_base.specs.MarkedChange.{gained, lost, marked_change};
 ghost use Rattle.evidence.specs.Evidence.{IsEvidence};
-ghost use Rattle.evidence_check.specs.Marks.{MarksSurvivors, cause_against, gained, is_alive_at, least_alive, lost, marked_change, rows_of};
+ghost use Rattle.evidence_check.specs.Marks.{MarksSurvivors, cause_against, is_alive_at, rows_of};
 ghost use Rattle.evidence_check.specs.Truth.{bridge_of, cause_of, change_cause, is_outside, same_bridge, same_change, reported_edit};
 
 use crate::CheckError;
@@ -15,10 +16,7 @@ use crate::part::Part;
 use crate::rows::{first_bridge, last_bridge};
 use crate::weighed_row::{added_entry, is_same};
 use evidence::Evidence;
-use retro_base::laws::{
-    greatest_from_bridge_is_gained, least_before_bridge_is_lost, one_change_is_named,
-    one_entry_is_carried,
-};
+use retro_base::laws::{marks_tell_the_change, one_change_is_named};
 use retro_base::{Change, Entry};
 
 /// Why evidence is refused that tells of an edit which can be made in these rows, if it is.
@@ -29,9 +27,7 @@ pub(crate) fn change_cause<P: Part>(rows: &Pack<P>, evidence: &Evidence) -> Opti
     requires inside { is_outside evidence.now.added evidence.now.place (rows_of rows.now) ≡ false }
     ensures { result ≡ change_cause (rows_of rows.now) (reported_edit evidence.now) evidence.now.change }
 {
-    one_entry_is_carried();
-    greatest_from_bridge_is_gained();
-    least_before_bridge_is_lost();
+    marks_tell_the_change();
     one_change_is_named();
     cause_against(evidence.change, marked_change(rows, evidence))
 }
@@ -41,11 +37,9 @@ pub(crate) fn read_change<P: Part>(rows: &Pack<P>, evidence: &Evidence)
     requires kept { MarksSurvivors rows.now }
     requires evidence { IsEvidence evidence.now }
     requires truth { cause_of (rows_of rows.now) evidence.now ≡ None }
-    ensures { marked_change rows.now evidence.now.added evidence.now.place (added_as evidence.now.op evidence.now.number) ≡ Some evidence.now.change }
+    ensures { marked_change (rows_of rows.now) (reported_edit evidence.now) ≡ Some evidence.now.change }
 {
-    one_entry_is_carried();
-    greatest_from_bridge_is_gained();
-    least_before_bridge_is_lost();
+    marks_tell_the_change();
     one_change_is_named();
 }
 
@@ -70,8 +64,9 @@ fn cause_against(stated: Change, read: Option<Change>) -> Option<CheckError>
 /// What the edit changes. There is none where the rows after it do not replay.
 fn marked_change<P: Part>(rows: &Pack<P>, evidence: &Evidence) -> Option<Change>
     requires kept { MarksSurvivors rows.now }
+    requires possible { IsPqEdit (rows_of rows.now) (reported_edit evidence.now) }
     requires inside { is_outside evidence.now.added evidence.now.place (rows_of rows.now) ≡ false }
-    ensures { result ≡ marked_change rows.now evidence.now.added evidence.now.place (added_as evidence.now.op evidence.now.number) }
+    ensures { result ≡ marked_change (rows_of rows.now) (reported_edit evidence.now) }
 {
     let place = evidence.place;
     let entry = added_entry(evidence.op, evidence.number);
@@ -96,7 +91,7 @@ fn marked_change<P: Part>(rows: &Pack<P>, evidence: &Evidence) -> Option<Change>
 fn gained<P: Part>(rows: &Pack<P>, place: u32, new: Option<Entry>) -> Option<Change>
     requires kept { MarksSurvivors rows.now }
     requires within { place ≤ length rows.now }
-    ensures { result ≡ gained rows.now place new }
+    ensures { result ≡ gained (rows_of rows.now) (last_bridge (rows_of rows.now) place) new }
 {
     let bridge = last_bridge(rows, place);
     let entry = later_of(new, rows.dead_from(bridge))?;
@@ -107,7 +102,7 @@ fn gained<P: Part>(rows: &Pack<P>, place: u32, new: Option<Entry>) -> Option<Cha
 fn lost<P: Part>(rows: &Pack<P>, place: u32) -> Option<Change>
     requires kept { MarksSurvivors rows.now }
     requires within { place ≤ length rows.now }
-    ensures { result ≡ lost rows.now place }
+    ensures { result ≡ lost (rows_of rows.now) (first_bridge (rows_of rows.now) place) }
 {
     let bridge = first_bridge(rows, place);
     let entry = rows.alive_to(bridge)?;

@@ -2,15 +2,16 @@
 
 ghost use Rattle.std.specs.Prelude.{◌≡◌, ◌<◌, ◌≤◌, ◌&&◌, None, Some, false, length, insert, remove, IfErr, IfSome, OnOk, OnErr};
 ghost use Rattle.retro_base.specs.Limits.{most_rows};
+ghost use Rattle.retro_base.specs.MarkedChange.{marked_change};
 ghost use Rattle.retro_base.specs.Timeline.{HaveOwnNumbers};
 ghost use Rattle.retro_base.specs.Weights.{added_as};
 ghost use Rattle.evidence.specs.Evidence.{IsEvidence};
 ghost use Rattle.evidence_check.specs.declared.error.CheckError.TheVariants as causes;
 ghost use Rattle.evidence_check.specs.Changed.{IsChanged, is_gain, marked_where, moved_place};
 ghost use Rattle.evidence_check.specs.KeptNumbers.{AreWeighed, AreNumbers};
-ghost use Rattle.evidence_check.specs.Marks.{MarksSurvivors, changed_marks, edited_rows, marked_change, weighed_row, rows_of};
+ghost use Rattle.evidence_check.specs.Marks.{MarksSurvivors, changed_marks, edited_rows, weighed_row, rows_of};
 ghost use Rattle.evidence_check.specs.Parts.{is_entry, marked_at};
-ghost use Rattle.evidence_check.specs.Truth.{cause_of, has_number, has_wrong_number};
+ghost use Rattle.evidence_check.specs.Truth.{cause_of, has_number, has_wrong_number, reported_edit};
 
 use crate::CheckError;
 use crate::changes::read_change;
@@ -67,7 +68,7 @@ fn is_gain(change: Change) -> bool
 /// Where the row stands before the edit whose mark changes by it. There is none for the row of the edit itself.
 fn changed_place<P: Part>(rows: &Pack<P>, evidence: &Evidence) -> Option<u32>
     requires kept { MarksSurvivors rows.now }
-    requires read { marked_change rows.now evidence.now.added evidence.now.place (added_as evidence.now.op evidence.now.number) ≡ Some evidence.now.change }
+    requires read { marked_change (rows_of rows.now) (reported_edit evidence.now) ≡ Some evidence.now.change }
     ensures { IsChanged rows.now evidence.now result }
 {
     match evidence.change {

@@ -48,7 +48,7 @@ pub(crate) trait Part: Drop {
     /// The greatest dead entry of its rows from a place on.
     fn dead_from(&self, from: u32) -> Option<Entry>
         requires { length (rows self.now) ≤ most_rows }
-        ensures { result ≡ greatest_dead None (drop from (rows self.now)) };
+        ensures { result ≡ greatest_dead (drop from (rows self.now)) };
 
     /// The least entry that survives of its rows before a place.
     fn alive_to(&self, to: u32) -> Option<Entry>
@@ -58,7 +58,7 @@ pub(crate) trait Part: Drop {
     /// The place of the row with the greatest dead entry from a place on.
     fn dead_place(&self, from: u32, entry: Entry) -> u32
         requires few { length (rows self.now) ≤ most_rows }
-        requires there { greatest_dead None (drop from (rows self.now)) ≡ Some entry }
+        requires there { greatest_dead (drop from (rows self.now)) ≡ Some entry }
         ensures { shows_at dead_entry (rows self.now) result ≡ Some entry };
 
     /// The place of the row with the least entry that survives before a place.

@@ -103,7 +103,7 @@ pub(crate) fn first_zero_among<P: Part>(parts: &[P], before: i32, from: u32) -> 
 /// The greatest dead entry from a place on.
 pub(crate) fn dead_among<P: Part>(parts: &[P], from: u32) -> Option<Entry>
     requires { length (flat_map P.rows parts.now) ≤ most_rows }
-    ensures { result ≡ greatest_dead None (drop from (flat_map P.rows parts.now)) }
+    ensures { result ≡ greatest_dead (drop from (flat_map P.rows parts.now)) }
 {
     let mut passed = 0;
     let mut greatest = None;
@@ -131,7 +131,7 @@ pub(crate) fn alive_among<P: Part>(parts: &[P], to: u32) -> Option<Entry>
 /// The place of the greatest dead entry from a place on: of the first part that has it.
 pub(crate) fn dead_place_among<P: Part>(parts: &[P], from: u32, entry: Entry) -> u32
     requires few { length (flat_map P.rows parts.now) ≤ most_rows }
-    requires there { greatest_dead None (drop from (flat_map P.rows parts.now)) ≡ Some entry }
+    requires there { greatest_dead (drop from (flat_map P.rows parts.now)) ≡ Some entry }
     ensures { shows_at dead_entry (flat_map P.rows parts.now) result ≡ Some entry }
 {
     let mut passed = 0;

@@ -15,23 +15,9 @@ use Rattle.retro_base.specs.State.{State, entries, perform}
 use Rattle.retro_base.specs.PrefixLaws.{valid_take}
 use Rattle.retro_base.specs.Timeline.{AreOfKind, IsReplayable}
 use Rattle.retro_base.specs.Weights.{added_as, added_by}
+use Rattle.retro_base.specs.lemmas.bridges.StatedBridges.{adds_or_takes}
 use Rattle.pq_fusion.specs.Pieces.{PieceParts, no_parts, after_take, after_row, after_rows, tolerant}
 use Rattle.pq_fusion.proofs.Fused.{parts}
-
--- a row of a priority queue adds an entry or takes one
-pub adds_or_takes : (op : Op) → kind_of op ≡ Pq → ((k : ℤ) × (op ≡ Ins k)) ⊎ (op ≡ DelMin)
-adds_or_takes (Enq v) same = absurd (cc)
-adds_or_takes Deq same = absurd (cc)
-adds_or_takes (Push v) same = absurd (cc)
-adds_or_takes Pop same = absurd (cc)
-adds_or_takes (PushL v) same = absurd (cc)
-adds_or_takes (PushR v) same = absurd (cc)
-adds_or_takes PopL same = absurd (cc)
-adds_or_takes PopR same = absurd (cc)
-adds_or_takes (Put k v) same = absurd (cc)
-adds_or_takes (Del k) same = absurd (cc)
-adds_or_takes (Ins k) same = inl (k, refl)
-adds_or_takes DelMin same = inr refl
 
 -- the unmet takings never grow fewer
 more_unmet : (left removed : List Entry) (unmet : ℕ) → unmet ≤ (after_take left removed unmet).unmet

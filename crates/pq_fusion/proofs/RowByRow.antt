@@ -19,7 +19,7 @@ use Rattle.pq_fusion.specs.Pieces.{PieceParts, IsPiece, size_of, after_take, aft
 use Rattle.pq_fusion.proofs.Order.{order_with}
 use Rattle.pq_fusion.proofs.Fused.{parts, same_parts, rising_row}
 use Rattle.pq_fusion.proofs.FromRows.{in_parts, one_more, no_more}
-use Rattle.pq_fusion.proofs.Replays.{adds_or_takes}
+use Rattle.retro_base.specs.lemmas.bridges.StatedBridges.{adds_or_takes}
 use Rattle.pq_fusion.proofs.Sizes.{row_size, rows_size}
 
 -- a row that adds an entry, and a taking

@@ -1,5 +1,3 @@
 -- Passes over rows that find a bridge, an entry and the change of an edit.
 
 pub mod Search
-pub mod BestSoFar
-pub mod FoundChange

@@ -1,24 +1,25 @@
--- The greater of two entries and the lesser one, as one choice between two.
-use Rattle.std.specs.Prelude.{Bool, List, if◌then◌else◌}
+-- The better one of two entries that may be there, and the best one of many.
+use Rattle.std.specs.Prelude.{◌≡◌, Bool, false, List, if◌then◌else◌}
 use Rattle.std.specs.Prelude.{Option, Some, None}
+use Rattle.std.specs.List.{fold}
 use Rattle.retro_base.specs.declared.row.Entry.{Entry}
 use Rattle.retro_base.specs.State.{comes_before}
-use Rattle.retro_base.specs.Bridges.{is_among}
 
 -- the order seen from its other end
 abbrev pub comes_after : Entry → Entry → Bool
 comes_after a b = comes_before b a
 
--- the second entry, unless there is a first one and the second is worse
-abbrev pub better : (Entry → Entry → Bool) → Option Entry → Entry → Entry
-better worse None second = second
-better worse (Some first) second = if worse second first then first else second
+-- the better one of an entry and another, where there is another
+abbrev pub better_of : (Entry → Entry → Bool) → Option Entry → Option Entry → Option Entry
+better_of beaten_by best None = best
+better_of beaten_by None (Some entry) = Some entry
+better_of beaten_by (Some best) (Some entry) = Some (if beaten_by best entry then entry else best)
 
--- the greater of an entry and an added one, if that is dead, and the lesser of an entry and an added one, if that survives
-abbrev pub greater_dead : List Entry → Option Entry → Option Entry → Option Entry
-greater_dead alive greatest None = greatest
-greater_dead alive greatest (Some entry) = if is_among alive entry then greatest else Some (better comes_before greatest entry)
+-- the best one of an entry and those that rows show
+abbrev pub best_among : {R : Type 0} → (Entry → Entry → Bool) → (R → Option Entry) → Option Entry → List R → Option Entry
+best_among beaten_by shown best rows = fold (λ best row. better_of beaten_by best (shown row)) best rows
 
-abbrev pub lesser_survivor : List Entry → Option Entry → Option Entry → Option Entry
-lesser_survivor alive least None = least
-lesser_survivor alive least (Some entry) = if is_among alive entry then Some (better comes_after least entry) else least
+-- the best entry of which this holds
+pub record IsBest (beaten_by : Entry → Entry → Bool) (P : Entry → Type 0) (entry : Entry) : Type 0 where
+  pub one : P entry
+  pub unbeaten : (other : Entry) → P other → beaten_by entry other ≡ false

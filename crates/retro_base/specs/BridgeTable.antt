@@ -1,9 +1,10 @@
 -- Which entry an edit of a priority queue gains or loses, by the bridge that it states.
-use Rattle.std.specs.Prelude.{◌≡◌, ℕ, false, List, take, drop, Contains}
+use Rattle.std.specs.Prelude.{ℕ, List, take, drop, Contains}
 use Rattle.std.specs.List.{filter_map}
 use Rattle.retro_base.specs.declared.row.Entry.{Entry}
 use Rattle.retro_base.specs.declared.row.Row.{Row}
 use Rattle.retro_base.specs.State.{comes_before}
+use Rattle.retro_base.specs.Better.{comes_after, IsBest}
 use Rattle.retro_base.specs.Bridges.{survivors}
 use Rattle.retro_base.specs.Weights.{added_by}
 
@@ -20,10 +21,8 @@ abbrev pub IsSurvivorBefore : List Row → ℕ → Entry → Type 0
 IsSurvivorBefore rows place entry = Contains (added (take place rows)) entry × Contains (survivors rows) entry
 
 -- the greatest entry of which this holds, and the least one
-pub record IsGreatest (P : Entry → Type 0) (entry : Entry) : Type 0 where
-  pub one : P entry
-  pub greatest : (other : Entry) → P other → comes_before entry other ≡ false
+abbrev pub IsGreatest : (Entry → Type 0) → Entry → Type 0
+IsGreatest P entry = IsBest comes_before P entry
 
-pub record IsLeast (P : Entry → Type 0) (entry : Entry) : Type 0 where
-  pub one : P entry
-  pub least : (other : Entry) → P other → comes_before other entry ≡ false
+abbrev pub IsLeast : (Entry → Type 0) → Entry → Type 0
+IsLeast P entry = IsBest comes_after P entry

@@ -29,7 +29,8 @@ pub mod CarriedLaws
 pub mod BridgeTable
 pub mod BridgeTableLaws
 pub mod ChangeLaws
-pub mod ChangeTableLaws
+pub mod MarkedChange
+pub mod MarkedChangeLaws
 pub mod GivingLaws
 pub mod Counting
 pub mod EntriesInOrder

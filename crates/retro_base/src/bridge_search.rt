@@ -1,49 +1,50 @@
-//! Bridges among rows, found by their weights, and the entries that an edit changes.
+//! Bridges among rows, found by their weights, and what an edit changes, read off which entries survive.
 
-ghost use Rattle.std.specs.Prelude.{◌≡◌, ◌≤◌, length, pos, negsuc, ◌≤ℤ◌, Some, None, MatchOption};
-ghost use Rattle.retro_base.specs.declared.kind.Kind.TheVariants.{Pq};
-ghost use Rattle.retro_base.specs.declared.row.Change.TheVariants.{Gain, Lose};
-ghost use Rattle.retro_base.specs.declared.row.Entry.{Entry};
-ghost use Rattle.retro_base.specs.BridgeTable.{IsDeadFrom, IsSurvivorBefore, IsGreatest, IsLeast};
-ghost use Rattle.retro_base.specs.Bridges.{survivors, IsLastBridge, IsFirstBridge};
+ghost use Rattle.std.specs.Prelude.{◌≡◌, ◌+◌, ◌≤◌, length, pos, ◌+ℤ◌, ◌≤ℤ◌};
+ghost use Rattle.retro_base.specs.Better.{comes_after, better_of};
+ghost use Rattle.retro_base.specs.Bridges.{survivors, last_bridge, first_bridge};
 ghost use Rattle.retro_base.specs.Carried.{IsPqHistory, IsPqEdit};
-ghost use Rattle.retro_base.specs.Changes.{IsPqChange};
-ghost use Rattle.retro_base.specs.Edits.{add, cut, IsAccepted};
+ghost use Rattle.retro_base.specs.Edits.{add, cut};
 ghost use Rattle.retro_base.specs.Limits.{most_rows};
+ghost use Rattle.retro_base.specs.MarkedChange.{alive_entry, dead_entry, gained, greatest_dead, least_survivor, lost, marked_change};
 ghost use Rattle.retro_base.specs.State.{comes_before};
-ghost use Rattle.retro_base.specs.Better.{comes_after, better, greater_dead, lesser_survivor};
 ghost use Rattle.retro_base.specs.Weights.{added_by, weight_as};
 
 use crate::entries::Entries;
 use crate::{Change, Entry, Row};
 
-/// The weight of a row: 0 where its entry survives, 1 where it is dead, and -1 where it takes one.
-fn weight(alive: &Entries, row: Row) -> i32
-    ensures weighs { result ≡ weight_as alive.now (added_by row) }
-    ensures low { negsuc 0 ≤ℤ result }
-    ensures high { result ≤ℤ pos 1 }
+/// How many dead entries are held after one more row, by how many were held before it: its weight is added.
+fn dead_after(alive: &Entries, dead: u32, row: Row) -> u32
+    requires room { dead ≤ most_rows }
+    requires held { pos 0 ≤ℤ (pos dead +ℤ weight_as alive.now (added_by row)) }
+    ensures weighs { pos result ≡ pos dead +ℤ weight_as alive.now (added_by row) }
+    ensures few { result ≤ dead + 1 }
 {
     match row.added_entry() {
-        Some(entry) if alive.contains(entry) => 0,
-        Some(_) => 1,
-        None => -1,
+        Some(entry) if alive.contains(entry) => dead,
+        Some(_) => dead + 1,
+        None => dead - 1,
     }
 }
 
-/// The last bridge up to a place.
+/// The last bridge up to a place. The place after all rows is one, and is not looked for.
 fn last_bridge(alive: &Entries, rows: &[Row], place: usize) -> u32
     requires history { IsPqHistory rows.now }
     requires few { length rows.now ≤ most_rows }
     requires alive { alive.now ≡ survivors rows.now }
     requires within { place ≤ length rows.now }
-    ensures { IsLastBridge rows.now place result }
+    ensures bridge { result ≡ last_bridge rows.now place }
+    ensures within { result ≤ place }
 {
+    if place == rows.len() {
+        return place as u32;
+    }
     let (before, _) = rows.split_at(place);
     let mut bridge = 0;
-    let mut sum = 0;
+    let mut dead = 0;
     for (index, row) in before.iter().enumerate() {
-        sum += weight(alive, *row);
-        if sum == 0 {
+        dead = dead_after(alive, dead, *row);
+        if dead == 0 {
             bridge = index as u32 + 1;
         }
     }
@@ -56,171 +57,141 @@ fn first_bridge(alive: &Entries, rows: &[Row], place: usize) -> u32
     requires few { length rows.now ≤ most_rows }
     requires alive { alive.now ≡ survivors rows.now }
     requires within { place ≤ length rows.now }
-    ensures { IsFirstBridge rows.now place result }
+    ensures bridge { result ≡ first_bridge rows.now place }
+    ensures within { result ≤ length rows.now }
 {
-    let mut sum = 0;
+    if place == rows.len() {
+        return place as u32;
+    }
+    let mut dead = 0;
     for (index, row) in rows.iter().enumerate() {
-        if place <= index && sum == 0 {
+        if place <= index && dead == 0 {
             return index as u32;
         }
-        sum += weight(alive, *row);
+        dead = dead_after(alive, dead, *row);
     }
     rows.len() as u32
 }
 
-/// The greater of two entries, where there is a first one.
-fn greater(first: Option<Entry>, second: Entry) -> Entry
-    ensures { result ≡ better comes_before first second }
+/// The greater of two entries that may be there.
+fn greater(best: Option<Entry>, entry: Option<Entry>) -> Option<Entry>
+    ensures { result ≡ better_of comes_before best entry }
 {
-    match first {
-        Some(first) if second.comes_before(first) => first,
-        _ => second,
+    match (best, entry) {
+        (Some(first), Some(second)) if first.comes_before(second) => entry,
+        (None, _) => entry,
+        _ => best,
     }
 }
 
-/// The lesser of two entries, where there is a first one.
-fn lesser(first: Option<Entry>, second: Entry) -> Entry
-    ensures { result ≡ better comes_after first second }
+/// The lesser of two entries that may be there.
+fn lesser(best: Option<Entry>, entry: Option<Entry>) -> Option<Entry>
+    ensures { result ≡ better_of comes_after best entry }
 {
-    match first {
-        Some(first) if first.comes_before(second) => first,
-        _ => second,
+    match (best, entry) {
+        (Some(first), Some(second)) if second.comes_before(first) => entry,
+        (None, _) => entry,
+        _ => best,
     }
 }
 
-/// The greater of an entry and the one that a row adds, if that is dead.
-fn greater_dead(alive: &Entries, greatest: Option<Entry>, row: Row) -> Option<Entry>
-    ensures { result ≡ greater_dead alive.now greatest (added_by row) }
+/// The entry that a row adds, if it is dead.
+fn dead_entry(alive: &Entries, row: Row) -> Option<Entry>
+    ensures { result ≡ dead_entry alive.now row }
 {
-    match row.added_entry() {
-        Some(entry) if !alive.contains(entry) => Some(greater(greatest, entry)),
-        _ => greatest,
-    }
+    row.added_entry().filter(|entry| !alive.contains(*entry))
 }
 
-/// The lesser of an entry and the one that a row adds, if that survives.
-fn lesser_survivor(alive: &Entries, least: Option<Entry>, row: Row) -> Option<Entry>
-    ensures { result ≡ lesser_survivor alive.now least (added_by row) }
+/// The entry that a row adds, if it survives.
+fn alive_entry(alive: &Entries, row: Row) -> Option<Entry>
+    ensures { result ≡ alive_entry alive.now row }
 {
-    match row.added_entry() {
-        Some(entry) if alive.contains(entry) => Some(lesser(least, entry)),
-        _ => least,
-    }
+    row.added_entry().filter(|entry| alive.contains(*entry))
 }
 
-/// The greatest dead entry that was added at a place or after it.
-fn greatest_dead_from(alive: &Entries, rows: &[Row], place: usize) -> Option<Entry>
+/// The greatest dead entry from a place on.
+fn greatest_dead(alive: &Entries, rows: &[Row], place: usize) -> Option<Entry>
     requires alive { alive.now ≡ survivors rows.now }
     requires within { place ≤ length rows.now }
-    ensures { MatchOption result
-        ((entry : Entry) → ¬ IsDeadFrom rows.now place entry)
-        (IsGreatest (IsDeadFrom rows.now place)) }
+    ensures { result ≡ greatest_dead rows.now place }
 {
     let (_, after) = rows.split_at(place);
-    let mut greatest = None;
-    for row in after {
-        greatest = greater_dead(alive, greatest, *row);
-    }
-    greatest
+    after
+        .iter()
+        .fold(None, |best, row| greater(best, dead_entry(alive, *row)))
 }
 
-/// The least survivor that was added before a place.
-fn least_survivor_before(alive: &Entries, rows: &[Row], place: usize) -> Option<Entry>
+/// The least survivor before a place. Before the end it is the least of all.
+fn least_survivor(alive: &Entries, rows: &[Row], place: usize) -> Option<Entry>
+    requires history { IsPqHistory rows.now }
     requires alive { alive.now ≡ survivors rows.now }
     requires within { place ≤ length rows.now }
-    ensures { MatchOption result
-        ((entry : Entry) → ¬ IsSurvivorBefore rows.now place entry)
-        (IsLeast (IsSurvivorBefore rows.now place)) }
+    ensures { result ≡ least_survivor rows.now place }
 {
+    if place == rows.len() {
+        return alive.get(0);
+    }
     let (before, _) = rows.split_at(place);
-    let mut least = None;
-    for row in before {
-        least = lesser_survivor(alive, least, *row);
-    }
-    least
+    before
+        .iter()
+        .fold(None, |best, row| lesser(best, alive_entry(alive, *row)))
 }
 
-/// What is lost at a bridge: the least survivor from before it.
-fn lost_before(alive: &Entries, rows: &[Row], bridge: u32) -> Change
+/// The greatest of an entry and the dead ones from a bridge on is gained.
+fn gained(alive: &Entries, rows: &[Row], bridge: u32, new: Option<Entry>) -> Option<Change>
     requires alive { alive.now ≡ survivors rows.now }
     requires within { bridge ≤ length rows.now }
-    requires some { (entry : Entry) × IsSurvivorBefore rows.now bridge entry }
-    ensures { (entry : Entry) × (result ≡ Lose (Some bridge) entry) × IsLeast (IsSurvivorBefore rows.now bridge) entry }
+    ensures { result ≡ gained rows.now bridge new }
 {
-    match least_survivor_before(alive, rows, bridge as usize) {
-        Some(entry) => Change::Lose {
-            bridge: Some(bridge),
-            entry,
-        },
-        None => unreachable!(),
-    }
+    let entry = greater(new, greatest_dead(alive, rows, bridge as usize))?;
+    Some(Change::Gain { bridge, entry })
 }
 
-/// What is gained from a bridge on: the greatest dead entry.
-fn gained_from(alive: &Entries, rows: &[Row], bridge: u32) -> Change
+/// The least survivor before a bridge is lost.
+fn lost(alive: &Entries, rows: &[Row], bridge: u32) -> Option<Change>
+    requires history { IsPqHistory rows.now }
     requires alive { alive.now ≡ survivors rows.now }
     requires within { bridge ≤ length rows.now }
-    requires some { (entry : Entry) × IsDeadFrom rows.now bridge entry }
-    ensures { (entry : Entry) × (result ≡ Gain bridge entry) × IsGreatest (IsDeadFrom rows.now bridge) entry }
+    ensures { result ≡ lost rows.now bridge }
 {
-    match greatest_dead_from(alive, rows, bridge as usize) {
-        Some(entry) => Change::Gain { bridge, entry },
-        None => unreachable!(),
-    }
-}
-
-/// What a priority queue gains or loses where a row is put in after all rows.
-fn change_at_end(alive: &Entries, rows: &[Row], row: Row) -> Change
-    requires possible { IsPqEdit rows.now (add (length rows.now) row) }
-    requires accepted { IsAccepted Pq rows.now (add (length rows.now) row) }
-    requires few { length rows.now ≤ most_rows }
-    requires alive { alive.now ≡ survivors rows.now }
-    ensures { IsPqChange rows.now (add (length rows.now) row) result }
-{
-    let end = rows.len() as u32;
-    match (row.added_entry(), alive.get(0)) {
-        (Some(entry), _) => Change::Gain { bridge: end, entry },
-        (None, Some(entry)) => Change::Lose {
-            bridge: Some(end),
-            entry,
-        },
-        (None, None) => unreachable!(),
-    }
+    let entry = least_survivor(alive, rows, bridge as usize)?;
+    Some(Change::Lose {
+        bridge: Some(bridge),
+        entry,
+    })
 }
 
 /// What a priority queue gains or loses where a row is put in at a place.
-pub(crate) fn change_with(alive: &Entries, rows: &[Row], place: usize, row: Row) -> Change
+pub(crate) fn change_with(alive: &Entries, rows: &[Row], place: usize, row: Row) -> Option<Change>
     requires possible { IsPqEdit rows.now (add place row) }
-    requires accepted { IsAccepted Pq rows.now (add place row) }
     requires few { length rows.now ≤ most_rows }
     requires alive { alive.now ≡ survivors rows.now }
-    ensures { IsPqChange rows.now (add place row) result }
+    ensures { result ≡ marked_change rows.now (add place row) }
 {
-    if place == rows.len() {
-        return change_at_end(alive, rows, row);
+    match row.added_entry() {
+        Some(entry) => gained(alive, rows, last_bridge(alive, rows, place), Some(entry)),
+        None => lost(alive, rows, first_bridge(alive, rows, place)),
     }
-    let Some(new) = row.added_entry() else {
-        return lost_before(alive, rows, first_bridge(alive, rows, place));
-    };
-    let bridge = last_bridge(alive, rows, place);
-    let entry = greater(greatest_dead_from(alive, rows, bridge as usize), new);
-    Change::Gain { bridge, entry }
 }
 
 /// What a priority queue gains or loses where this row is taken out of its place.
-pub(crate) fn change_without(alive: &Entries, rows: &[Row], place: usize, row: Row) -> Change
+pub(crate) fn change_without(
+    alive: &Entries,
+    rows: &[Row],
+    place: usize,
+    row: Row,
+) -> Option<Change>
     requires possible { IsPqEdit rows.now (cut place row) }
-    requires accepted { IsAccepted Pq rows.now (cut place row) }
     requires few { length rows.now ≤ most_rows }
     requires alive { alive.now ≡ survivors rows.now }
-    ensures { IsPqChange rows.now (cut place row) result }
+    ensures { result ≡ marked_change rows.now (cut place row) }
 {
     match row.added_entry() {
-        Some(entry) if alive.contains(entry) => Change::Lose {
+        Some(entry) if alive.contains(entry) => Some(Change::Lose {
             bridge: None,
             entry,
-        },
-        Some(_) => lost_before(alive, rows, first_bridge(alive, rows, place + 1)),
-        None => gained_from(alive, rows, last_bridge(alive, rows, place)),
+        }),
+        Some(_) => lost(alive, rows, first_bridge(alive, rows, place + 1)),
+        None => gained(alive, rows, last_bridge(alive, rows, place), None),
     }
 }

@@ -3,7 +3,7 @@
 ghost use Rattle.retro_base.specs.BridgeLaws.{WeightsCountTheDead, SumsAreNeverNegative, BridgesAreZeros, DeadComeFirst};
 ghost use Rattle.retro_base.specs.CarriedLaws.{GivingIsAccepted, OneIsCarried, PresentsDifferByOne, AddingCarriesOn, MissingStaysFromBridge};
 ghost use Rattle.retro_base.specs.BridgeTableLaws.{AddedEntryGains, CutTakeGains, AddedTakeLoses, CutDeadLoses, CutSurvivorLoses};
-ghost use Rattle.retro_base.specs.ChangeTableLaws.{AddedEntryChanges, CutTakeChanges, AddedTakeChanges, CutDeadChanges, CutSurvivorChanges, CutTakeLeavesDead};
+ghost use Rattle.retro_base.specs.MarkedChangeLaws.{MarksTellTheChange};
 ghost use Rattle.retro_base.specs.GivingLaws.{AddingRowReplays, TakingRowCanGo};
 ghost use Rattle.retro_base.specs.ChangeLaws.{OneBridgeIsStated, OneChangeOfPq, OneChangeOfOthers};
 
@@ -59,15 +59,10 @@ pub fn one_change_is_named()
     ensures of_others { OneChangeOfOthers }
 {}
 
-/// A law: each line of the table names the change of its edit, so that a bridge and the entry that is
-/// taken from there are the change. Where a row that takes is cut there is such an entry.
-pub fn table_names_the_change()
-    ensures added_entry { AddedEntryChanges }
-    ensures cut_take { CutTakeChanges }
-    ensures added_take { AddedTakeChanges }
-    ensures cut_dead { CutDeadChanges }
-    ensures cut_survivor { CutSurvivorChanges }
-    ensures some_dead { CutTakeLeavesDead }
+/// A law: what is read off rows that are marked by their survivors is the change of the edit, or none exactly where the
+/// edit is refused. A bridge and the entry that is taken from there are the whole change.
+pub fn marks_tell_the_change()
+    ensures { MarksTellTheChange }
 {}
 
 /// A law: rows that replay whole still do once a row that adds is put in anywhere, or one that takes is taken out,

@@ -139,7 +139,10 @@ fn change_of_insert(kind: Kind, rows: &[Row], present: &Content, place: usize, r
     ensures { IsChange kind rows.now (add place row) result }
 {
     match present {
-        Content::Entries(alive) => change_with(alive, rows, place, row),
+        Content::Entries(alive) => match change_with(alive, rows, place, row) {
+            Some(change) => change,
+            None => unreachable!(),
+        },
         Content::Line(_) | Content::Pairs(_) => Change::Plain,
     }
 }
@@ -153,7 +156,10 @@ fn change_of_remove(kind: Kind, rows: &[Row], present: &Content, place: usize) -
         → IsChange kind rows.now (cut place row) result }
 {
     match present {
-        Content::Entries(alive) => change_without(alive, rows, place, rows[place]),
+        Content::Entries(alive) => match change_without(alive, rows, place, rows[place]) {
+            Some(change) => change,
+            None => unreachable!(),
+        },
         Content::Line(_) | Content::Pairs(_) => Change::Plain,
     }
 }

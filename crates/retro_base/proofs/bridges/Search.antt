@@ -1,121 +1,87 @@
--- A pass over the weights finds bridges: the sum is kept, and a place is one where it is 0. A pass over the rows finds the
--- greatest entry and the least one of those that they add.
-use Rattle.std.proofs.Common.{◌≡◌, ◌≢◌, ℕ, ℤ, pos, negsuc, suc, ◌+◌, ◌+ℤ◌, ◌<◌, ◌≤◌, List, [], ◌∷◌, ◌++◌, length, get_or, take, inl, inr, refl, ap, sym, ◌∙◌, arith, subst, w32, Fits, SFits, to_z, of_z}
-use Rattle.std.specs.Prelude.{◌≤ℤ◌}
-use Rattle.std.specs.List.{fold}
-use Rattle.std.proofs.lemmas.Int.{ints, to_z-of_z}
-use Rattle.std.proofs.Math.Facts.{of_z-to_z, Fits-of_z}
-use Rattle.std.proofs.lemmas.List.Sums.{fold-append}
-use Rattle.std.proofs.Math.Seq.{take-suc}
+-- A pass over the rows counts the dead entries that are held, which are none at a bridge.
+use Rattle.std.proofs.Common.{◌≡◌, ◌≢◌, ℕ, pos, suc, ◌+◌, ◌-◌, ◌+ℤ◌, ◌<◌, ◌≤◌, true, false, List, [], ◌∷◌, length, get_or, ◌⊎◌, inl, inr, refl, ap, sym, ◌∙◌, arith, subst, add-one}
+use Rattle.std.specs.Prelude.{◌≤ℤ◌, slice_get}
+use Rattle.std.proofs.lemmas.List.Sums.{fold_more}
+use Rattle.std.proofs.Math.Seq.{take-length}
 use Rattle.retro_base.specs.declared.row.Entry.{Entry}
 use Rattle.retro_base.specs.declared.row.Row.{Row}
-use Rattle.retro_base.specs.Limits.{most_rows}
-use Rattle.retro_base.specs.Bridges.{survivors, IsBridge, IsLastBridge, IsFirstBridge}
-use Rattle.retro_base.specs.Weights.{added_by, weight, weight_as, sum_of_weights}
+use Rattle.retro_base.specs.Better.{comes_after}
+use Rattle.retro_base.specs.Bridges.{survivors, entries_at, is_bridge, last_bridge, first_bridge}
+use Rattle.retro_base.specs.BridgeTable.{IsSurvivorBefore}
 use Rattle.retro_base.specs.Carried.{IsPqHistory}
-use Rattle.retro_base.specs.lemmas.bridges.Weighing.{bridge_is_zero}
-use Rattle.retro_base.specs.lemmas.bridges.StatedBridges.{start_is_bridge, end_is_bridge, same_or_less}
+use Rattle.retro_base.specs.MarkedChange.{least_survivor}
+use Rattle.retro_base.specs.Weights.{added_by, weight, weight_as, sum_of_weights}
+use Rattle.retro_base.specs.lemmas.bridges.Best.{FindsBest, after_is_order, least_found, one_best}
+use Rattle.retro_base.specs.lemmas.bridges.Entries.{In, contains_in}
+use Rattle.retro_base.specs.lemmas.bridges.LossTable.{first_is_least}
+use Rattle.retro_base.specs.lemmas.bridges.StatedBridges.{end_is_bridge, last_found}
+use Rattle.retro_base.specs.lemmas.bridges.Tests.{bridge_passes, passes_bridge}
+use Rattle.retro_base.specs.lemmas.bridges.Weighing.{bridge_is_zero, sum_not_negative}
 
--- the sum of the weights up to a place
-pub record Weighed (rows : List Row) (place : ℕ) (sum : ℤ) : Type 0 where
-  pub weighs : sum ≡ sum_of_weights rows place
-  pub low : negsuc place ≤ℤ sum
-  pub high : sum ≤ℤ pos place
+-- so many dead entries are held at a place
+pub record HoldsDead (rows : List Row) (place dead : ℕ) : Type 0 where
+  pub weighs : sum_of_weights rows place ≡ pos dead
+  pub few : dead ≤ place
 
-pub weighed_start : (rows : List Row) → Weighed rows 0 (pos 0)
-weighed_start rows = record { weighs = refl; low = omega (arith, ints); high = omega (arith, ints) }
+module _ (rows : List Row) (history : IsPqHistory rows) where
+  module _ (alive : List Entry) (place dead : ℕ) (row d : Row) (same : alive ≡ survivors rows) (so_far : HoldsDead rows place dead) (within : place < length rows) (at : row ≡ get_or rows place d) where
+    next_sum : sum_of_weights rows (place + 1) ≡ pos dead +ℤ weight_as alive (added_by row)
+    next_sum = fold_more (λ sum r. sum +ℤ weight rows r) (pos 0) rows place d within ∙ rw (so_far.weighs, same, at) refl
 
-sum_next : (rows : List Row) (place : ℕ) (row d : Row) → place < length rows → row ≡ get_or rows place d
-    → sum_of_weights rows (suc place) ≡ sum_of_weights rows place +ℤ weight rows row
-sum_next rows place row d within at =
-    let next : take (suc place) rows ≡ take place rows ++ row ∷ [] = take-suc rows place d within ∙ ap (λ r. take place rows ++ r ∷ []) (sym at) in
-    ap (fold (λ sum r. sum +ℤ weight rows r) (pos 0)) next ∙ fold-append (λ sum r. sum +ℤ weight rows r) (pos 0) (take place rows) (row ∷ [])
+    pub next_held : pos 0 ≤ℤ (pos dead +ℤ weight_as alive (added_by row))
+    next_held = subst (λ z. pos 0 ≤ℤ z) next_sum (sum_not_negative rows (place + 1) history)
 
-sum_low : (place : ℕ) (sum w : ℤ) → negsuc place ≤ℤ sum → negsuc 0 ≤ℤ w → negsuc (suc place) ≤ℤ (sum +ℤ w)
-sum_low place sum w low small = omega (arith, ints)
+    pub holds_next : (after : ℕ) → pos after ≡ pos dead +ℤ weight_as alive (added_by row) → after ≤ dead + 1 → HoldsDead rows (place + 1) after
+    holds_next after weighs few = record { weighs = next_sum ∙ sym weighs; few = omega (arith, so_far.few) }
 
-sum_high : (place : ℕ) (sum w : ℤ) → sum ≤ℤ pos place → w ≤ℤ pos 1 → (sum +ℤ w) ≤ℤ pos (suc place)
-sum_high place sum w high small = omega (arith, ints)
+  pub bridge_here : (place : ℕ) → HoldsDead rows place 0 → is_bridge rows place ≡ true
+  bridge_here place none = bridge_passes rows place ((bridge_is_zero rows place history).1 none.weighs)
 
-pub weighed_next : (rows : List Row) (alive : List Entry) (place next : ℕ) (sum w : ℤ) (row d : Row) → next ≡ place + 1 → Weighed rows place sum
-    → place < length rows → row ≡ get_or rows place d → alive ≡ survivors rows
-    → w ≡ weight_as alive (added_by row) → negsuc 0 ≤ℤ w → w ≤ℤ pos 1 → Weighed rows next (sum +ℤ w)
-weighed_next rows alive place next sum w row d on so_far within at same weighs low high =
-    let here : suc place ≡ next = omega arith in
-    let w_is : w ≡ weight rows row = weighs ∙ ap (λ l. weight_as l (added_by row)) same in
-    subst (λ n. Weighed rows n (sum +ℤ w)) here (record {
-      weighs = ap (λ s. s +ℤ w) so_far.weighs ∙ ap (λ v. sum_of_weights rows place +ℤ v) w_is ∙ sym (sum_next rows place row d within at);
-      low = sum_low place sum w so_far.low low;
-      high = sum_high place sum w so_far.high high;
-    })
+  pub no_bridge_here : (place dead : ℕ) → HoldsDead rows place dead → dead ≢ 0 → is_bridge rows place ≡ false
+  no_bridge_here place dead held some = elim (is_bridge rows place) as (λ b. is_bridge rows place ≡ b → b ≡ false) [
+    | true ↦ λ passes. let none : pos dead ≡ pos 0 = sym held.weighs ∙ (bridge_is_zero rows place history).0 (passes_bridge rows place passes) in absurd (some (cc))
+    | false ↦ λ fails. refl
+  ] refl
 
--- the sum as it is stored
-pub stored : (bits : ℕ) (w : ℤ) → SFits w32 w → SFits w32 (to_z w32 bits +ℤ w) → to_z w32 (of_z w32 (to_z w32 bits +ℤ to_z w32 (of_z w32 w))) ≡ to_z w32 bits +ℤ w
-stored bits w fits sum_fits = simp to_z-of_z
+  -- back from a place
+  pub last_here : (place dead : ℕ) → HoldsDead rows (place + 1) dead → dead ≡ 0 → place + 1 ≡ last_bridge rows (place + 1)
+  last_here place dead held none =
+      subst (λ n. is_bridge rows n ≡ true → n ≡ last_bridge rows n) (sym (add-one place)) (λ passes. rw passes refl) (bridge_here (place + 1) (rw none at held))
 
-pub stored_fits : (bits : ℕ) (w : ℤ) → SFits w32 w → SFits w32 (to_z w32 bits +ℤ w) → Fits w32 (of_z w32 (to_z w32 bits +ℤ to_z w32 (of_z w32 w)))
-stored_fits bits w fits sum_fits = simp to_z-of_z (Fits-of_z sum_fits)
+  pub last_before : (place dead bridge : ℕ) → HoldsDead rows (place + 1) dead → dead ≢ 0 → bridge ≡ last_bridge rows place → bridge ≡ last_bridge rows (place + 1)
+  last_before place dead bridge held some last =
+      subst (λ n. is_bridge rows n ≡ false → bridge ≡ last_bridge rows n) (sym (add-one place)) (λ fails. rw fails last) (no_bridge_here (place + 1) dead held some)
 
-pub stored_zero : (bits : ℕ) → bits ≡ 0 → to_z w32 bits ≡ pos 0
-stored_zero bits none = ap (to_z w32) none
+  -- on from a place
+  still : (place : ℕ) → place < length rows → length rows - place ≡ suc (length rows - suc place)
+  still place within = omega arith
 
-pub stored_other : (bits : ℕ) → Fits w32 bits → (bits ≡ 0 → ⊥) → to_z w32 bits ≢ pos 0
-stored_other bits fits some none = some (sym (of_z-to_z fits) ∙ ap (of_z w32) none)
+  pub first_here : (place dead : ℕ) → HoldsDead rows place dead → dead ≡ 0 → place < length rows → first_bridge rows place ≡ place
+  first_here place dead held none within = rw (still place within, bridge_here place (rw none at held)) refl
 
-within_fits : (place : ℕ) (z : ℤ) → negsuc (suc place) ≤ℤ z → z ≤ℤ pos (suc place) → place < most_rows → SFits w32 z
-within_fits place (pos n) low high few = record { sfits = omega (arith, ints) }
-within_fits place (negsuc n) low high few = record { sfits = omega (arith, ints) }
+  first_later : (place dead : ℕ) → HoldsDead rows place dead → dead ≢ 0 → place < length rows → first_bridge rows place ≡ first_bridge rows (place + 1)
+  first_later place dead held some within = rw (add-one place, still place within, no_bridge_here place dead held some) refl
 
-pub sum_fits : (rows : List Row) (place : ℕ) (sum w : ℤ) → Weighed rows place sum → place < most_rows → negsuc 0 ≤ℤ w → w ≤ℤ pos 1 → SFits w32 (sum +ℤ w)
-sum_fits rows place sum w so_far few low high = within_fits place (sum +ℤ w) (sum_low place sum w so_far.low low) (sum_high place sum w so_far.high high) few
+  pub first_next : (from place dead : ℕ) → HoldsDead rows place dead → place < length rows → (from ≤ place → first_bridge rows from ≡ first_bridge rows place)
+      → ((from ≤ place) × (dead ≢ 0)) ⊎ (place < from) → from ≤ place + 1 → first_bridge rows from ≡ first_bridge rows (place + 1)
+  first_next from place dead held within so_far either after = elim either [
+    | inl on ↦ so_far on.0 ∙ first_later place dead held on.1 within
+    | inr early ↦ ap (first_bridge rows) (let same : from ≡ place + 1 = omega arith in same)
+  ]
 
-zero_bridges : (rows : List Row) (place : ℕ) (sum : ℤ) → IsPqHistory rows → Weighed rows place sum → sum ≡ pos 0 → IsBridge rows place
-zero_bridges rows place sum history so_far none = (bridge_is_zero rows place history).1 (sym so_far.weighs ∙ none)
+-- the place after all rows is a bridge, where the survivors are held
+pub last_at_end : (rows : List Row) → last_bridge rows (length rows) ≡ length rows
+last_at_end rows =
+    let last = last_found rows (length rows) in
+    let not_before : ¬ (last_bridge rows (length rows) < length rows) = λ before. last.last (length rows) before (omega arith) (end_is_bridge rows) in
+    omega (arith, last.within, not_before)
 
-others_do_not : (rows : List Row) (place : ℕ) (sum : ℤ) → IsPqHistory rows → Weighed rows place sum → sum ≢ pos 0 → ¬ IsBridge rows place
-others_do_not rows place sum history so_far some bridge = some (so_far.weighs ∙ (bridge_is_zero rows place history).0 bridge)
+first_held : (rows : List Row) (held : List Entry) → IsPqHistory rows → entries_at rows (length rows) ≡ held → survivors rows ≡ held
+    → FindsBest comes_after (IsSurvivorBefore rows (length rows)) (slice_get held 0)
+first_held rows [] history holds all = λ e early. (let inside : In e [] = subst (In e) all (contains_in _ e early.1) in inside)
+first_held rows (first ∷ others) history holds all = first_is_least rows (length rows) first others history (end_is_bridge rows) holds
 
--- back from a place
-pub back_start : (rows : List Row) → IsLastBridge rows 0 0
-back_start rows = record { within = omega arith; bridges = start_is_bridge rows; last = λ other after within here. absurd (omega arith) }
-
-pub back_here : (rows : List Row) (place : ℕ) (sum : ℤ) → IsPqHistory rows → Weighed rows place sum → sum ≡ pos 0 → IsLastBridge rows place place
-back_here rows place sum history so_far none =
-    record { within = omega arith; bridges = zero_bridges rows place sum history so_far none; last = λ other after within here. absurd (omega arith) }
-
-pub back_before : (rows : List Row) (place next bridge : ℕ) (sum : ℤ) → IsPqHistory rows → next ≡ place + 1 → Weighed rows next sum → sum ≢ pos 0
-    → IsLastBridge rows place bridge → IsLastBridge rows next bridge
-back_before rows place next bridge sum history on so_far some last = record {
-  within = let within : bridge ≤ place = last.within in omega arith;
-  bridges = last.bridges;
-  last = λ other after within here. elim (same_or_less other place (let inside : other ≤ next = within in omega arith)) [
-    | inl same ↦ let at : other ≡ next = omega arith in others_do_not rows next sum history so_far some (subst (IsBridge rows) at here)
-    | inr before ↦ last.last other after before here
-  ];
-}
-
--- on from a place: none so far
-abbrev pub NoneSoFar : List Row → ℕ → ℕ → Type 0
-NoneSoFar rows place index = (other : ℕ) → place ≤ other → other < index → ¬ IsBridge rows other
-
-pub on_here : (rows : List Row) (place index : ℕ) (sum : ℤ) → IsPqHistory rows → Weighed rows index sum → place ≤ index → index ≤ length rows → sum ≡ pos 0
-    → NoneSoFar rows place index → IsFirstBridge rows place index
-on_here rows place index sum history so_far after within none before =
-    record { from = after; within = within; bridges = zero_bridges rows index sum history so_far none; first = before }
-
-pub on_end : (rows : List Row) (place : ℕ) → place ≤ length rows → NoneSoFar rows place (length rows) → IsFirstBridge rows place (length rows)
-on_end rows place within before = record { from = within; within = omega arith; bridges = end_is_bridge rows; first = before }
-
-none_next : (rows : List Row) (place index next : ℕ) → next ≡ index + 1 → (place ≤ index → ¬ IsBridge rows index) → NoneSoFar rows place index → NoneSoFar rows place next
-none_next rows place index next on here before = λ other from inside bridge.
-    elim (same_or_less (suc other) index (omega arith)) [
-      | inl same ↦ let at : other ≡ index = omega arith in here (omega arith) (subst (IsBridge rows) at bridge)
-      | inr earlier ↦ before other from (omega arith) bridge
-    ]
-
-pub on_early : (rows : List Row) (place index next : ℕ) → next ≡ index + 1 → index < place → NoneSoFar rows place index → NoneSoFar rows place next
-on_early rows place index next on early before = none_next rows place index next on (λ from bridge. omega arith) before
-
-pub on_further : (rows : List Row) (place index next : ℕ) (sum : ℤ) → IsPqHistory rows → next ≡ index + 1 → Weighed rows index sum → sum ≢ pos 0
-    → NoneSoFar rows place index → NoneSoFar rows place next
-on_further rows place index next sum history on so_far some before = none_next rows place index next on (λ from. others_do_not rows index sum history so_far some) before
+pub least_at_end : (rows : List Row) → IsPqHistory rows → least_survivor rows (length rows) ≡ slice_get (survivors rows) 0
+least_at_end rows history =
+    one_best comes_after after_is_order (IsSurvivorBefore rows (length rows)) _ _ (least_found rows (length rows))
+    (first_held rows (survivors rows) history (ap survivors (take-length rows)) refl)

@@ -28,4 +28,5 @@ pub mod LossTable
 -- the stated bridge and the change
 pub mod StatedBridges
 pub mod OneChange
-pub mod NamedChange
+pub mod Best
+pub mod MarkedChange

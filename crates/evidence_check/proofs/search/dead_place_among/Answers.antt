@@ -1,4 +1,4 @@
-use Rattle.std.proofs.Common.{◌≤◌, length, drop, None, ap, sym, ◌∙◌, arith}
+use Rattle.std.proofs.Common.{◌≤◌, length, drop, ap, sym, ◌∙◌, arith}
 use Rattle.std.specs.List.{flat_map}
 use Rattle.evidence_check.specs.Marks.{dead_entry, greatest_dead}
 use Rattle.retro_base.specs.Limits.{most_rows}
@@ -38,5 +38,5 @@ pub loop-part-preserved : goal.loop-part-preserved
 loop-part-preserved g c = (
   passed_next g.P.Part.rows c.args.parts.now c.loop-part.part-index c.part-item.result c.loop-part-test.true c.part-item.is c.loop-part.passed c.sums-passed.result.rows c.loop-part.invariant.0 (ap (λ s. s.rows) c.sums-passed.ensures),
   no_dead_next g.P.Part.rows c.args.parts.now c.loop-part.part-index c.part-item.result c.loop-part-test.true c.part-item.is c.args.from c.loop-part.passed c.args.entry c.dead_from.result c.loop-part.invariant.0 c.loop-part.invariant.1
-      (c.dead_from.ensures ∙ ap (λ n. greatest_dead None (drop n (g.P.Part.rows c.part-item.result))) c.beyond-start.ensures) (sym c.is_entry.ensures ∙ c.if-is_entry.false),
+      (c.dead_from.ensures ∙ ap (λ n. greatest_dead (drop n (g.P.Part.rows c.part-item.result))) c.beyond-start.ensures) (sym c.is_entry.ensures ∙ c.if-is_entry.false),
 )

@@ -97,7 +97,7 @@ bound_from rows bridge place last x history within last_bridge bound dead =
 
 -- the greatest is one alone, and is the one that is gained
 greatest_is : (P : Entry → Type 0) (a b : Entry) → IsGreatest P a → IsGreatest P b → a ≡ b
-greatest_is P a b first second = at_most_both a b (second.greatest a first.one) (first.greatest b second.one)
+greatest_is P a b first second = at_most_both a b (second.unbeaten a first.one) (first.unbeaten b second.one)
 
 pub gained_iff : (P : Entry → Type 0) (last entry : Entry) (before after : List Entry) → Joins last before after → IsGreatest P last
     → Joins entry before after ↔ IsGreatest P entry
@@ -120,7 +120,7 @@ added_entry_gains rows place row new bridge entry possible adds last_bridge =
         | inl same ↦ inl same
         | inr origin ↦ inr (dead_from rows bridge place c.last history last_bridge.within possible.within last_bridge.bridges origin c.absent)
       ];
-      greatest = λ other is_one. elim is_one [
+      unbeaten = λ other is_one. elim is_one [
         | inl same ↦ subst (λ x. AtMost x c.last) (sym same) c.least
         | inr dead ↦ bound_from rows bridge place c.last other history possible.within last_bridge c.greatest dead
       ];
@@ -151,7 +151,7 @@ cut_take_gains rows place row bridge entry possible takes last_bridge =
               | inr added ↦ inr (subst (Adds c.last) (sym next) added)
             ]
           ]) c.absent;
-      greatest = λ other dead. bound_from rows bridge place c.last other history within last_bridge
+      unbeaten = λ other dead. bound_from rows bridge place c.last other history within last_bridge
           (λ y origin died. elim origin [
             | inl there ↦ elim (subst (In y) found.2 there) [
               | inl first ↦ subst (λ z. AtMost z c.last) (sym first) c.least

@@ -65,14 +65,14 @@ first_is_least rows bridge y rest history is_bridge holds =
     let ready : Ready (y ∷ rest) (moves_of (drop bridge rows)) = subst (λ l. Ready l (moves_of (drop bridge rows))) holds (history_at rows bridge history).ready in
     record {
       one = held_before rows bridge y history is_bridge (subst (In y) (sym holds) (inl refl));
-      least = λ other early. elim (subst (In other) holds (before_held rows bridge other history early)) [
+      unbeaten = λ other early. elim (subst (In other) holds (before_held rows bridge other history early)) [
         | inl same ↦ subst (λ z. comes_before z y ≡ false) (sym same) (before_irreflexive y)
         | inr later ↦ before_one_way y other (above_in y other rest ready.rising.0 later)
       ];
     }
 
 least_is : (P : Entry → Type 0) (a b : Entry) → IsLeast P a → IsLeast P b → a ≡ b
-least_is P a b first second = at_most_both a b (first.least b second.one) (second.least a first.one)
+least_is P a b first second = at_most_both a b (first.unbeaten b second.one) (second.unbeaten a first.one)
 
 not_both : (o : Option ℕ) (i : ℕ) → o ≡ None → o ≡ Some i → ⊥
 not_both o i e f = cc

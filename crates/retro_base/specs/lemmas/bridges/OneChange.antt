@@ -1,23 +1,18 @@
 -- The change is the stated bridge and the one entry by which the presents differ, which is the first that the one holds and the
 -- other does not.
-use Rattle.std.proofs.Common.{◌≡◌, ◌≢◌, ℕ, zero, suc, Bool, true, false, not, is_some, List, [], ◌∷◌, cond, inl, inr, refl, ap, sym, ◌∙◌, subst, Option, Some, None}
-use Rattle.std.specs.Prelude.{slice_get}
+use Rattle.std.proofs.Common.{◌≡◌, ◌≢◌, ℕ, Bool, true, false, not, is_some, List, [], ◌∷◌, cond, inl, inr, refl, ap, sym, ◌∙◌, subst, Option, Some, None}
 use Rattle.std.specs.List.{find}
 use Rattle.std.proofs.lemmas.Option.{same_Some}
 use Rattle.retro_base.specs.declared.kind.Kind.{Kind}
 use Rattle.retro_base.specs.declared.kind.Kind.TheVariants.{Queue, Stack, Deque, Dict, Pq}
-use Rattle.retro_base.specs.declared.op.Op.{Op}
-use Rattle.retro_base.specs.declared.op.Op.TheVariants.{Enq, Deq, Push, Pop, PushL, PushR, PopL, PopR, Put, Del, Ins, DelMin}
 use Rattle.retro_base.specs.declared.row.Change.{Change}
 use Rattle.retro_base.specs.declared.row.Change.TheVariants.{Plain, Gain, Lose}
 use Rattle.retro_base.specs.declared.row.Entry.{Entry}
 use Rattle.retro_base.specs.declared.row.Row.{Row}
-use Rattle.retro_base.specs.Kind.{kind_of}
-use Rattle.retro_base.specs.Timeline.{AreOfKind}
 use Rattle.retro_base.specs.Weights.{added_as}
 use Rattle.retro_base.specs.State.{comes_before, with_entry}
 use Rattle.retro_base.specs.Edits.{Edit, add, cut, edited, IsAccepted}
-use Rattle.retro_base.specs.Bridges.{survivors, is_among, back_from, sought_for_added, sought_for_cut, bridge_found, stated_bridge, IsStatedBridge}
+use Rattle.retro_base.specs.Bridges.{survivors, is_among, sought_for_added, sought_for_cut, bridge_found, stated_bridge, IsStatedBridge}
 use Rattle.retro_base.specs.Changes.{Joins, IsPqChange, first_beyond, change_at, change_of, pq_change_of}
 use Rattle.retro_base.specs.Carried.{IsPqEdit, gives, Differ}
 use Rattle.retro_base.specs.ChangeLaws.{IsTheChange}
@@ -25,7 +20,7 @@ use Rattle.retro_base.specs.lemmas.bridges.Entries.{In, with_in, in_contains}
 use Rattle.retro_base.specs.lemmas.bridges.Tests.{in_is_among, not_among}
 use Rattle.retro_base.specs.lemmas.bridges.Later.{one_joins}
 use Rattle.retro_base.specs.lemmas.bridges.EditsCarry.{presents_differ}
-use Rattle.retro_base.specs.lemmas.bridges.StatedBridges.{one_bridge_stated}
+use Rattle.retro_base.specs.lemmas.bridges.StatedBridges.{adds_or_takes, kind_there, one_bridge_stated}
 
 -- a test that one more entry passes alone finds it
 found_alone : (test : Entry → Bool) (e : Entry) (held : List Entry) → test e ≡ true → ((x : Entry) → In x held → test x ≡ false) → find test (with_entry e held) ≡ Some e
@@ -53,44 +48,15 @@ lose_at None e = refl
 lose_at (Some n) e = refl
 
 -- an edit that gives looks for its bridge back from its place, and finds one
-pub added_looks_back : (op : Op) (number place : ℕ) → is_some (added_as op number) ≡ true → sought_for_added op place ≡ back_from place
-added_looks_back (Enq v) number place gain = absurd (cc)
-added_looks_back Deq number place gain = absurd (cc)
-added_looks_back (Push v) number place gain = absurd (cc)
-added_looks_back Pop number place gain = absurd (cc)
-added_looks_back (PushL v) number place gain = absurd (cc)
-added_looks_back (PushR v) number place gain = absurd (cc)
-added_looks_back PopL number place gain = absurd (cc)
-added_looks_back PopR number place gain = absurd (cc)
-added_looks_back (Put k v) number place gain = absurd (cc)
-added_looks_back (Del k) number place gain = absurd (cc)
-added_looks_back (Ins k) number place gain = refl
-added_looks_back DelMin number place gain = absurd (cc)
-
-pub cut_looks_back : (rows : List Row) (op : Op) (number place : ℕ) → kind_of op ≡ Pq → not (is_some (added_as op number)) ≡ true
-    → sought_for_cut rows op number place ≡ back_from place
-cut_looks_back rows (Enq v) number place of_kind gain = absurd (cc)
-cut_looks_back rows Deq number place of_kind gain = absurd (cc)
-cut_looks_back rows (Push v) number place of_kind gain = absurd (cc)
-cut_looks_back rows Pop number place of_kind gain = absurd (cc)
-cut_looks_back rows (PushL v) number place of_kind gain = absurd (cc)
-cut_looks_back rows (PushR v) number place of_kind gain = absurd (cc)
-cut_looks_back rows PopL number place of_kind gain = absurd (cc)
-cut_looks_back rows PopR number place of_kind gain = absurd (cc)
-cut_looks_back rows (Put k v) number place of_kind gain = absurd (cc)
-cut_looks_back rows (Del k) number place of_kind gain = absurd (cc)
-cut_looks_back rows (Ins k) number place of_kind gain = absurd (cc)
-cut_looks_back rows DelMin number place of_kind gain = refl
-
-pub kind_there : (rows : List Row) (place : ℕ) (row : Row) → AreOfKind Pq rows → slice_get rows place ≡ Some row → kind_of row.op ≡ Pq
-kind_there [] place row of_kind at = absurd (cc)
-kind_there (r ∷ rows) zero row of_kind at = subst (λ (x : Row). kind_of x.op ≡ Pq) (same_Some r row at) of_kind.0
-kind_there (r ∷ rows) (suc place) row of_kind at = kind_there rows place row of_kind.1 at
-
 giving_states : (rows : List Row) (edit : Edit) → IsPqEdit rows edit → gives edit ≡ true → (bridge : ℕ) × (stated_bridge rows edit ≡ Some bridge)
-giving_states rows (add place row) possible gain = (_, ap (bridge_found rows) (added_looks_back row.op row.number place gain))
-giving_states rows (cut place row) possible gain =
-    (_, ap (bridge_found rows) (cut_looks_back rows row.op row.number place (kind_there rows place row possible.history.of_kind possible.within) gain))
+giving_states rows (add place row) possible gain = elim (adds_or_takes row.op possible.own_row.0) [
+  | inl ins ↦ (_, ap (λ op. bridge_found rows (sought_for_added op place)) ins.1)
+  | inr takes ↦ let wrong : false ≡ true = sym (ap (λ op. is_some (added_as op row.number)) takes) ∙ gain in absurd (cc)
+]
+giving_states rows (cut place row) possible gain = elim (adds_or_takes row.op (kind_there rows place row possible.history.of_kind possible.within)) [
+  | inl ins ↦ let wrong : false ≡ true = sym (ap (λ op. not (is_some (added_as op row.number))) ins.1) ∙ gain in absurd (cc)
+  | inr takes ↦ (_, ap (λ op. bridge_found rows (sought_for_cut rows op row.number place)) takes)
+]
 
 -- two changes that meet the relation are one: one entry comes to the other entries, and none goes from them
 not_both_ways : (a b : Entry) (before after : List Entry) → Joins a before after → Joins b after before → ⊥

@@ -1,22 +1,46 @@
 -- The stated bridge is found by looking at one place after another: place 0 is a bridge, where nothing is held, and so is the
 -- place after all rows, where the survivors are held.
-use Rattle.std.proofs.Common.{◌≡◌, ℕ, zero, suc, ◌+◌, ◌-◌, ◌<◌, ◌≤◌, true, false, List, [], ◌∷◌, length, cond, ◌⊎◌, inl, inr, refl, ap, sym, ◌∙◌, arith, subst, Option, Some, None}
+use Rattle.std.proofs.Common.{◌≡◌, ℕ, ℤ, zero, suc, ◌+◌, ◌-◌, ◌<◌, ◌≤◌, true, false, List, [], ◌∷◌, length, cond, ◌⊎◌, inl, inr, refl, ap, sym, ◌∙◌, arith, subst, Option, Some, None}
 use Rattle.std.specs.Prelude.{Contains}
 use Rattle.std.specs.List.{AllByRecursion}
-use Rattle.std.proofs.lemmas.Option.{slice_get_within}
+use Rattle.std.specs.Prelude.{slice_get}
+use Rattle.std.proofs.lemmas.Option.{slice_get_within, same_Some}
 use Rattle.std.proofs.Math.Seq.{take-length}
+use Rattle.retro_base.specs.declared.kind.Kind.TheVariants.{Pq}
 use Rattle.retro_base.specs.declared.op.Op.{Op}
 use Rattle.retro_base.specs.declared.op.Op.TheVariants.{Enq, Deq, Push, Pop, PushL, PushR, PopL, PopR, Put, Del, Ins, DelMin}
 use Rattle.retro_base.specs.declared.row.Entry.{Entry}
 use Rattle.retro_base.specs.declared.row.Row.{Row}
+use Rattle.retro_base.specs.Kind.{kind_of}
 use Rattle.retro_base.specs.Replay.{fold_rows}
+use Rattle.retro_base.specs.Timeline.{AreOfKind}
 use Rattle.retro_base.specs.Edits.{Edit, add, cut}
 use Rattle.retro_base.specs.Bridges.{survivors, survives, IsBridge, is_bridge, IsLastBridge, IsFirstBridge, last_bridge, first_bridge, first_bridge_among}
-use Rattle.retro_base.specs.Bridges.{Sought, back_from, on_from, nowhere, sought, sought_for_added, sought_for_cut, bridge_found, IsFound, stated_bridge}
+use Rattle.retro_base.specs.Bridges.{Sought, back_from, on_from, nowhere, sought, bridge_found, IsFound, stated_bridge}
 use Rattle.retro_base.specs.Carried.{IsPqEdit}
 use Rattle.retro_base.specs.ChangeLaws.{IsTheStatedBridge}
 use Rattle.retro_base.specs.lemmas.bridges.Entries.{In, in_contains}
 use Rattle.retro_base.specs.lemmas.bridges.Tests.{bridge_passes, passes_bridge}
+
+-- an operation of a priority queue adds an entry, or takes the least one
+pub adds_or_takes : (op : Op) → kind_of op ≡ Pq → ((key : ℤ) × (op ≡ Ins key)) ⊎ (op ≡ DelMin)
+adds_or_takes (Enq v) of_kind = absurd (cc)
+adds_or_takes Deq of_kind = absurd (cc)
+adds_or_takes (Push v) of_kind = absurd (cc)
+adds_or_takes Pop of_kind = absurd (cc)
+adds_or_takes (PushL v) of_kind = absurd (cc)
+adds_or_takes (PushR v) of_kind = absurd (cc)
+adds_or_takes PopL of_kind = absurd (cc)
+adds_or_takes PopR of_kind = absurd (cc)
+adds_or_takes (Put k v) of_kind = absurd (cc)
+adds_or_takes (Del k) of_kind = absurd (cc)
+adds_or_takes (Ins k) of_kind = inl (k, refl)
+adds_or_takes DelMin of_kind = inr refl
+
+pub kind_there : (rows : List Row) (place : ℕ) (row : Row) → AreOfKind Pq rows → slice_get rows place ≡ Some row → kind_of row.op ≡ Pq
+kind_there [] place row of_kind at = absurd (cc)
+kind_there (r ∷ rows) zero row of_kind at = subst (λ (x : Row). kind_of x.op ≡ Pq) (same_Some r row at) of_kind.0
+kind_there (r ∷ rows) (suc place) row of_kind at = kind_there rows place row of_kind.1 at
 
 pub same_or_less : (a b : ℕ) → a ≤ suc b → (a ≡ suc b) ⊎ (a ≤ b)
 same_or_less a b within = grind arith
@@ -88,11 +112,11 @@ pub first_found : (rows : List Row) (place : ℕ) → place ≤ length rows → 
 first_found rows place within = first_among (length rows - place) rows place (omega arith)
 
 -- there is one
-one_last : (rows : List Row) (place a b : ℕ) → IsLastBridge rows place a → IsLastBridge rows place b → a ≡ b
+pub one_last : (rows : List Row) (place a b : ℕ) → IsLastBridge rows place a → IsLastBridge rows place b → a ≡ b
 one_last rows place a b first second =
     neither_less a b (λ less. first.last b less second.within second.bridges) (λ less. second.last a less first.within first.bridges)
 
-one_first : (rows : List Row) (place a b : ℕ) → IsFirstBridge rows place a → IsFirstBridge rows place b → a ≡ b
+pub one_first : (rows : List Row) (place a b : ℕ) → IsFirstBridge rows place a → IsFirstBridge rows place b → a ≡ b
 one_first rows place a b first second =
     neither_less a b (λ less. second.first a first.from less first.bridges) (λ less. first.first b second.from less second.bridges)
 
@@ -118,40 +142,18 @@ found rows (back_from place) within = last_found rows place
 found rows (on_from place) within = first_found rows place within
 found rows nowhere within = tt
 
-added_within : (rows : List Row) (op : Op) (place : ℕ) → place ≤ length rows → SoughtWithin rows (sought_for_added op place)
-added_within rows (Enq v) place within = tt
-added_within rows Deq place within = tt
-added_within rows (Push v) place within = tt
-added_within rows Pop place within = tt
-added_within rows (PushL v) place within = tt
-added_within rows (PushR v) place within = tt
-added_within rows PopL place within = tt
-added_within rows PopR place within = tt
-added_within rows (Put k v) place within = tt
-added_within rows (Del k) place within = tt
-added_within rows (Ins k) place within = within
-added_within rows DelMin place within = within
-
-cut_within : (rows : List Row) (op : Op) (number place : ℕ) → place < length rows → SoughtWithin rows (sought_for_cut rows op number place)
-cut_within rows (Enq v) number place within = tt
-cut_within rows Deq number place within = tt
-cut_within rows (Push v) number place within = tt
-cut_within rows Pop number place within = tt
-cut_within rows (PushL v) number place within = tt
-cut_within rows (PushR v) number place within = tt
-cut_within rows PopL number place within = tt
-cut_within rows PopR number place within = tt
-cut_within rows (Put k v) number place within = tt
-cut_within rows (Del k) number place within = tt
-cut_within rows (Ins k) number place within = elim (survives rows (record { key = k; number = number })) as (λ b. SoughtWithin rows (cond b nowhere (on_from (suc place)))) [
-  | true ↦ tt
-  | false ↦ omega arith
-]
-cut_within rows DelMin number place within = omega arith
-
 edit_within : (rows : List Row) (edit : Edit) → IsPqEdit rows edit → SoughtWithin rows (sought rows edit)
-edit_within rows (add place row) possible = added_within rows row.op place possible.within
-edit_within rows (cut place row) possible = cut_within rows row.op row.number place (slice_get_within rows place row possible.within)
+edit_within rows (add place row) possible =
+    elim (adds_or_takes row.op possible.own_row.0) [ inl ins ↦ rw ins.1 possible.within | inr takes ↦ rw takes possible.within ]
+edit_within rows (cut place row) possible =
+    let inside : place < length rows = slice_get_within rows place row possible.within in
+    elim (adds_or_takes row.op (kind_there rows place row possible.history.of_kind possible.within)) [
+      | inl ins ↦ rw ins.1 (elim (survives rows (record { key = ins.0; number = row.number })) as (λ b. SoughtWithin rows (cond b nowhere (on_from (suc place)))) [
+        | true ↦ tt
+        | false ↦ omega arith
+      ])
+      | inr takes ↦ rw takes (omega arith)
+    ]
 
 pub one_bridge_stated : (rows : List Row) (edit : Edit) → IsPqEdit rows edit → IsTheStatedBridge rows edit (stated_bridge rows edit)
 one_bridge_stated rows edit possible =
