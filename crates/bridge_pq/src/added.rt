@@ -1,5 +1,5 @@
 //! All entries that the rows of a queue add, in their order.
-ghost use Rattle.std.specs.Prelude.{◌≡◌, ◌<◌, ◌≤◌, length, slice_get, Some};
+ghost use Rattle.std.specs.Prelude.{◌≡◌, ◌<◌, length, slice_get, Some};
 ghost use Rattle.retro_base.specs.Visits.{VisitsWithin};
 ghost use Rattle.bridge_pq.specs.Bridged.{AreAdded};
 

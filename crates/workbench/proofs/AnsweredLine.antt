@@ -1,5 +1,5 @@
--- What is told of a line outside a block: of the effect that it has on the timelines or on one of them, and as a reaction.
-use Rattle.std.proofs.Common.{◌≡◌, ℕ, Bool, List, [], ◌++◌, ap, refl, set, Option, Result, Ok, Err, IfOk, OnOk}
+-- What is told of a line outside a block: of the effect that it has on the timelines or on one of them.
+use Rattle.std.proofs.Common.{◌≡◌, ℕ, Bool, List, [], ◌++◌, refl, set, Result, Ok, Err, IfOk, OnOk}
 use Rattle.script_grammar.specs.declared.command.Command.{Command}
 use Rattle.script_grammar.specs.declared.command.Command.TheVariants.{Insert, Delete, Move, Change, Fate, Ask, Undo, Redo, Save}
 use Rattle.script_grammar.specs.declared.command.Moment.{Moment}
@@ -8,9 +8,9 @@ use Rattle.script_grammar.specs.declared.command.Spot.{Spot}
 use Rattle.retro_base.specs.declared.op.Op.{Op}
 use Rattle.workbench.specs.declared.outcome.Outcome.{Outcome}
 use Rattle.workbench.specs.declared.outcome.Outcome.TheVariants.{Silent}
-use Rattle.workbench.specs.Bench.{NamedTimeline, OpenBlock}
+use Rattle.workbench.specs.Bench.{NamedTimeline}
 use Rattle.workbench.specs.Outcome.{is_refusal, reply_text}
-use Rattle.workbench.specs.Reaction.{Effect, reaction_of, with_block}
+use Rattle.workbench.specs.Reaction.{Effect}
 use Rattle.workbench.specs.TimelineEffects.{TimelineEffect, unchanged}
 use Rattle.workbench.specs.AnsweredLine.{AnsweredLine, IsTold, performs, performs_other, told}
 
@@ -23,15 +23,6 @@ told_by (Ok refused) effect timelines outcome text done written refuses =
     let is_refused : refused ≡ is_refusal outcome = refuses in
     rw (done, is_text, is_refused) refl
 told_by (Err e) effect timelines outcome text done written refuses = tt
-
--- the same, as a reaction after which this block is being read
-pub told_outside : {E : Type 0} (result : Result Bool E) (effect : Effect) (block : Option OpenBlock) (timelines : List NamedTimeline) (answer : List ℕ)
-    → IfOk result (λ refused. told effect ≡ record { timelines = timelines; answer = answer; refused = refused })
-    → IfOk result (λ refused. reaction_of (with_block block effect) ≡ record { bench = record { timelines = timelines; block = block }; answer = answer; refused = refused })
-told_outside (Ok refused) effect block timelines answer is =
-    let same : told effect ≡ record { timelines = timelines; answer = answer; refused = refused } = is in
-    ap (λ (t : AnsweredLine). record { bench = record { timelines = t.timelines; block = block }; answer = t.answer; refused = t.refused }) same
-told_outside (Err e) effect block timelines answer is = tt
 
 -- the outcome of what one timeline makes of a command was told
 pub told_by_one : {E : Type 0} (result : Result Bool E) (effect : TimelineEffect) (after : NamedTimeline) (outcome : Outcome) (before text : List ℕ)

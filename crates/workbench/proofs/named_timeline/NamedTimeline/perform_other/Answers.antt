@@ -1,5 +1,4 @@
 use Rattle.std.proofs.Common.{refl, append-nil, sym}
-use Rattle.workbench.specs.TimelineEffects.{answers_fate, saves, unchanged}
 use Rattle.workbench.proofs.AnsweredLine.{silent_command, told_by_one}
 use Rattle.workbench.proofs.named_timeline.NamedTimeline.perform_other.Goals as goal
 

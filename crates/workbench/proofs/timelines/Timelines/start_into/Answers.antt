@@ -1,4 +1,3 @@
-use Rattle.workbench.specs.Reaction.{starts}
 use Rattle.workbench.proofs.AnsweredLine.{told_by}
 use Rattle.workbench.proofs.timelines.Timelines.start_into.Goals as goal
 
