@@ -54,8 +54,8 @@ abbrev pub rows_down : ℕ → ℕ → ℕ
 rows_down zero rows = rows
 rows_down (suc levels) rows = rows_down levels (3 * rows / 4)
 
--- a walk from a node of so many rows at most, down so many levels: on each a pair, and the node beside the path with its lists. That node has
--- what the path has not: where it has more than this, the path has gone down two levels
+-- the visits of a walk from a node of so many rows at most, down so many levels: on each level a pair is opened, and the node beside the path, both
+-- of whose lists are searched. Where that node has more rows than is counted here, the side on the path has so few that it may stand two levels down
 abbrev pub walk_of : ℕ → ℕ → ℕ
 walk_of zero rows = 3
 walk_of (suc levels) rows = 2 + turns_in_both (digits (rows - 1 - rows_down 2 rows)) + walk_of levels (3 * rows / 4)
@@ -72,7 +72,8 @@ abbrev pub SeeksWithin : List Row → ℕ → ℕ → Type 0
 SeeksWithin rows before after = (levels most turns : ℕ) → length rows ≤ most → rows_down levels most ≤ 1 → most + 1 < 2 ^ turns
     → VisitsUpTo (turns * (12 * digits (length rows + 1) + walk_of levels most)) before after
 
--- a question about the past of a queue of so many rows, and one about its size, which is one walk: in digits of one more
+-- a question about the past of a queue of so many rows visits at most 4 d² (d + 4), with d digits of one more than the rows, and one about its size,
+-- which is one walk, 4 d (d + 1)
 abbrev pub AskedWithin : ℕ → ℕ → ℕ → Type 0
 AskedWithin rows before after = VisitsUpTo (4 * (digits (rows + 1) + 4) * digits (rows + 1) * digits (rows + 1)) before after
 

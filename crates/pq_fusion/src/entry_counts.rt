@@ -1,4 +1,4 @@
-//! How many entries some rows leave, and how many of these reach a key.
+//! How many entries some rows leave, and how many of these do not come before a given one.
 
 ghost use Rattle.std.specs.Prelude.{◌≡◌, ◌+◌, ◌≤◌, [], ◌∷◌, length};
 ghost use Rattle.retro_base.specs.declared.kind.Kind.TheVariants.{Pq};

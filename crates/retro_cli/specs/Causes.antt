@@ -9,7 +9,8 @@ use Rattle.retro_cli.specs.declared.stop.Stop.TheVariants as stops
 use Rattle.retro_cli.specs.Run.{MayBeTooLong}
 use Rattle.retro_cli.specs.Stop.{stops_at_read, stops_at_write}
 
--- the source before and after, and the sink before and after: a fault was counted, or more bytes were taken than the program reads
+-- the source before and after, and the sink before and after: a count of faults rose where the run ended at a fault, and it ended at an input
+-- that is too long exactly where more bytes were taken than the program reads, of which the source had as many
 pub record HasCause {S K : Type 0} (I : sources.Ghosts S) (O : sinks.Ghosts K) (source source' : S) (sink sink' : K) (outcome : Result Bool Stop) : Type 0 where
   pub source_faults : CountsFaults (stops_at_read outcome) (I.faults source) (I.faults source')
   pub sink_faults : CountsFaults (stops_at_write outcome) (O.faults sink) (O.faults sink')

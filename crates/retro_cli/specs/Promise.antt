@@ -14,7 +14,7 @@ module _ {S K : Type 0} (I : sources.Ghosts S) (O : sinks.Ghosts K) (source sour
   pub record KeepsPromise (stands known unknown : Type 0) : Type 0 where
     -- what stands at the status, by the form of the words: the output of the script, the judgement or the summary
     pub form : stands
-    -- it is that of words without a form exactly where these have none
+    -- the status is that of words without a form exactly where these have none
     pub words : (status ≡ statuses.Words) ↔ unknown
     -- it is that of an input that is too long exactly where more bytes were taken than the program reads
     pub too_long : I.taken source' < last_count → ((status ≡ statuses.TooLong) ↔ (most_bytes < I.taken source' - I.taken source))
