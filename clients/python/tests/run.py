@@ -14,12 +14,20 @@ import unittest
 
 HERE = os.path.dirname(os.path.abspath(__file__))
 ROOT = os.path.dirname(os.path.dirname(os.path.dirname(HERE)))
-LIMIT = 600  # seconds, after which a test that waits for an answer ends the run
+LIMIT = 600  # seconds that a test may take; then the run ends, and says where that test stood
 MODULES = (
     "grammar_tests", "batches_tests", "conversation_tests", "rows_tests", "events_tests", "picture_tests", "command_tests", "typing_tests",
     "interruption_tests", "asynchronous_tests", "drawn", "example_tests", "explain_tests", "checking_tests", "looking_tests", "journal_tests",
     "table_tests", "page_tests", "cluster_tests",
 )
+
+
+class Watched(unittest.TextTestResult):
+    """What has become of the tests. Each has its own time."""
+
+    def startTest(self, test: unittest.TestCase) -> None:
+        faulthandler.dump_traceback_later(LIMIT, exit=True)
+        super().startTest(test)
 
 
 def main() -> None:
@@ -28,10 +36,9 @@ def main() -> None:
     os.environ["PYTHONPATH"] = os.path.dirname(HERE)
     os.environ["PYTHONDONTWRITEBYTECODE"] = "1"
     sys.dont_write_bytecode = True
-    faulthandler.dump_traceback_later(LIMIT, exit=True)
     sys.path[:0] = [HERE, os.path.dirname(HERE), os.path.join(ROOT, "tests", "hostile")]
     tests = unittest.TestLoader().loadTestsFromNames(MODULES)
-    done = unittest.TextTestRunner(stream=sys.stdout, verbosity=0).run(tests)
+    done = unittest.TextTestRunner(stream=sys.stdout, verbosity=0, resultclass=Watched).run(tests)
     failed = len(done.failures) + len(done.errors)
     print("%d passed, %d failed" % (done.testsRun - failed, failed))
     sys.exit(1 if failed or not done.testsRun else 0)
