@@ -6,7 +6,7 @@ use Rattle.std.proofs.lemmas.Bool.Decides.{Decides-eqb, Decides-int_eq}
 use Rattle.std.proofs.lemmas.Option.{slice_get_within}
 use Rattle.retro_base.specs.declared.kind.Kind.TheVariants.{Pq}
 use Rattle.retro_base.specs.declared.op.Op.{Op}
-use Rattle.retro_base.specs.declared.op.Op.TheVariants.{Enq, Deq, Push, Pop, PushL, PushR, PopL, PopR, Put, Del, Ins, DelMin}
+use Rattle.retro_base.specs.declared.op.Op.TheVariants.{Ins, DelMin}
 use Rattle.retro_base.specs.declared.row.Change.{Change}
 use Rattle.retro_base.specs.declared.row.Row.{Row}
 use Rattle.retro_base.specs.Bridges.{stated_bridge}
@@ -31,18 +31,9 @@ none_has number [] fresh = refl
 none_has number (row ∷ rows) fresh = rw (ne_eqb row.number number fresh.0) (none_has number rows fresh.1)
 
 same_op_itself : (op : Op) → kind_of op ≡ Pq → same_op op op ≡ true
-same_op_itself (Enq v) kind = absurd (cc)
-same_op_itself Deq kind = absurd (cc)
-same_op_itself (Push v) kind = absurd (cc)
-same_op_itself Pop kind = absurd (cc)
-same_op_itself (PushL v) kind = absurd (cc)
-same_op_itself (PushR v) kind = absurd (cc)
-same_op_itself PopL kind = absurd (cc)
-same_op_itself PopR kind = absurd (cc)
-same_op_itself (Put k v) kind = absurd (cc)
-same_op_itself (Del k) kind = absurd (cc)
 same_op_itself (Ins key) kind = (Decides-int_eq key key).1 refl
 same_op_itself DelMin kind = refl
+same_op_itself op kind = absurd (cc)
 
 -- the tests that an edit passes
 record Passes (rows : List Row) (e : Evidence) : Type 0 where

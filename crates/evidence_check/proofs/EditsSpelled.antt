@@ -4,7 +4,7 @@ use Rattle.std.specs.List.{AllByRecursion}
 use Rattle.std.proofs.lemmas.Option.{slice_get_within}
 use Rattle.retro_base.specs.declared.kind.Kind.TheVariants.{Pq}
 use Rattle.retro_base.specs.declared.op.Op.{Op}
-use Rattle.retro_base.specs.declared.op.Op.TheVariants.{Enq, Deq, Push, Pop, PushL, PushR, PopL, PopR, Put, Del, Ins, DelMin}
+use Rattle.retro_base.specs.declared.op.Op.TheVariants.{Ins, DelMin}
 use Rattle.retro_base.specs.declared.row.Change.{Change}
 use Rattle.retro_base.specs.declared.row.Change.TheVariants.{Plain, Gain, Lose}
 use Rattle.retro_base.specs.declared.row.Entry.{Entry}
@@ -41,37 +41,19 @@ survivors_in_range rows kind ranges = all_survivors IsPqEntry rows kind (rows_ad
 -- the stated bridge is among the rows
 add_within : (rows : List Row) (op : Op) (place number time bridge : ℕ) → place ≤ length rows → IsStatedBridge rows (add place (record { number = number; time = time; op = op })) (Some bridge)
     → bridge ≤ length rows
-add_within rows (Enq v) place number time bridge within is = absurd is
-add_within rows Deq place number time bridge within is = absurd is
-add_within rows (Push v) place number time bridge within is = absurd is
-add_within rows Pop place number time bridge within is = absurd is
-add_within rows (PushL v) place number time bridge within is = absurd is
-add_within rows (PushR v) place number time bridge within is = absurd is
-add_within rows PopL place number time bridge within is = absurd is
-add_within rows PopR place number time bridge within is = absurd is
-add_within rows (Put k v) place number time bridge within is = absurd is
-add_within rows (Del k) place number time bridge within is = absurd is
 add_within rows (Ins key) place number time bridge within is = omega (arith, is.within)
 add_within rows DelMin place number time bridge within is = is.within
+add_within rows op place number time bridge within is = absurd is
 
 cut_within : (rows : List Row) (op : Op) (place number time bridge : ℕ) → place < length rows → IsStatedBridge rows (cut place (record { number = number; time = time; op = op })) (Some bridge)
     → bridge ≤ length rows
-cut_within rows (Enq v) place number time bridge within is = absurd is
-cut_within rows Deq place number time bridge within is = absurd is
-cut_within rows (Push v) place number time bridge within is = absurd is
-cut_within rows Pop place number time bridge within is = absurd is
-cut_within rows (PushL v) place number time bridge within is = absurd is
-cut_within rows (PushR v) place number time bridge within is = absurd is
-cut_within rows PopL place number time bridge within is = absurd is
-cut_within rows PopR place number time bridge within is = absurd is
-cut_within rows (Put k v) place number time bridge within is = absurd is
-cut_within rows (Del k) place number time bridge within is = absurd is
 cut_within rows (Ins key) place number time bridge within is =
     elim (survives rows (record { key = key; number = number })) as (λ b. survives rows (record { key = key; number = number }) ≡ b → bridge ≤ length rows) [
       | true ↦ λ lives. let none : ⊥ = rw lives at is in absurd none
       | false ↦ λ dead. let first : IsFound rows (on_from (suc place)) (Some bridge) = rw dead at is in first.within
     ] refl
 cut_within rows DelMin place number time bridge within is = omega (arith, is.within)
+cut_within rows op place number time bridge within is = absurd is
 
 bridge_within : (rows : List Row) (edit : Edit) (bridge : ℕ) → IsPqEdit rows edit → IsStatedBridge rows edit (Some bridge) → bridge ≤ length rows
 bridge_within rows (add place row) bridge possible is = add_within rows row.op place row.number row.time bridge possible.within is

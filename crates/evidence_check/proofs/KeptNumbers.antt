@@ -6,7 +6,7 @@ use Rattle.std.proofs.lemmas.Bool.{ne_eqb}
 use Rattle.std.proofs.lemmas.Bool.Decides.{Decides-eqb}
 use Rattle.std.specs.Option.{option_map_or}
 use Rattle.retro_base.specs.declared.op.Op.{Op}
-use Rattle.retro_base.specs.declared.op.Op.TheVariants.{Enq, Deq, Push, Pop, PushL, PushR, PopL, PopR, Put, Del, Ins, DelMin}
+use Rattle.retro_base.specs.declared.op.Op.TheVariants.{Ins, DelMin}
 use Rattle.retro_base.specs.declared.row.Entry.{Entry}
 use Rattle.retro_base.specs.declared.row.Row.{Row}
 use Rattle.retro_base.specs.Bridges.{same_entry}
@@ -65,16 +65,7 @@ hit_number entry row hit = added_by_op row.op hit
     added_by_op : (op : Op) → option_map_or (same_entry entry) (added_as op row.number) false ≡ true → row.number ≡ entry.number
     added_by_op (Ins key) is = ap (λ e. e.number) (sym (same_entry-same entry (record { key = key; number = row.number }) is))
     added_by_op DelMin is = absurd (cc)
-    added_by_op (Enq v) is = absurd (cc)
-    added_by_op Deq is = absurd (cc)
-    added_by_op (Push v) is = absurd (cc)
-    added_by_op Pop is = absurd (cc)
-    added_by_op (PushL v) is = absurd (cc)
-    added_by_op (PushR v) is = absurd (cc)
-    added_by_op PopL is = absurd (cc)
-    added_by_op PopR is = absurd (cc)
-    added_by_op (Put k v) is = absurd (cc)
-    added_by_op (Del k) is = absurd (cc)
+    added_by_op op is = absurd (cc)
 
 missed_first : (entry : Entry) (first row : WeighedRow) → adds entry row ≡ true → row.number ≢ first.number → adds entry first ≡ false
 missed_first entry first row hit apart = elim (adds entry first) as (λ b. adds entry first ≡ b → b ≡ false) [

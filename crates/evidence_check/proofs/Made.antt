@@ -13,6 +13,7 @@ use Rattle.retro_base.specs.declared.row.Change.{Change}
 use Rattle.retro_base.specs.declared.row.Change.TheVariants.{Plain, Gain, Lose}
 use Rattle.retro_base.specs.declared.row.Entry.{Entry}
 use Rattle.retro_base.specs.declared.row.Row.{Row}
+use Rattle.retro_base.specs.EditedLists.{get-insert}
 use Rattle.retro_base.specs.OrderLaws.{own_numbers_with}
 use Rattle.retro_base.specs.Replay.{fold_rows}
 use Rattle.retro_base.specs.Timeline.{HaveOwnNumbers}
@@ -22,12 +23,12 @@ use Rattle.evidence.specs.declared.evidence.Evidence.{Evidence}
 use Rattle.evidence_check.specs.declared.weighed_row.WeighedRow.{WeighedRow}
 use Rattle.evidence_check.specs.Changed.{IsChanged, changed_entry, is_gain, marked_where, moved_place}
 use Rattle.evidence_check.specs.KeptNumbers.{AreWeighed, AreNumbers}
-use Rattle.evidence_check.specs.Marks.{adds, alive_entry, changed_marks, dead_entry, entry_of, weighed_row, unweighed, rows_of, with_mark}
+use Rattle.evidence_check.specs.Marks.{adds, changed_marks, entry_of, weighed_row, unweighed, rows_of, with_mark}
 use Rattle.evidence_check.specs.Parts.{marked_at, shows_at}
 use Rattle.evidence_check.specs.Truth.{has_number, has_wrong_number}
 use Rattle.evidence_check.proofs.KeptNumbers.{number_with, number_without, set_marked}
 use Rattle.evidence_check.proofs.Marks.{nothing_kept}
-use Rattle.evidence_check.proofs.Marking.{insert_rows}
+use Rattle.evidence_check.proofs.Marking.{insert-map, remove-map}
 use Rattle.evidence_check.proofs.Possible.{holds_at, is_fresh}
 
 -- numbers
@@ -91,28 +92,6 @@ mark_marked entry alive rows place own shows =
     let found = shows_row rows place entry shows in
     set_marked entry alive rows place found.0 own found.1 found.2
 
-pub dead_shows : (rows : List WeighedRow) (place : ℕ) (entry : Entry) → shows_at dead_entry rows place ≡ Some entry → shows_at entry_of rows place ≡ Some entry
-dead_shows rows place entry is = in_row (slice_get rows place) is
-  where
-    by_mark : (alive : Bool) (o : Option Entry) → cond alive None o ≡ Some entry → o ≡ Some entry
-    by_mark true o is = absurd (cc)
-    by_mark false o is = is
-
-    in_row : (o : Option WeighedRow) → option_and_then dead_entry o ≡ Some entry → option_and_then entry_of o ≡ Some entry
-    in_row None none = absurd (cc)
-    in_row (Some row) some = by_mark row.alive (entry_of row) some
-
-pub alive_shows : (rows : List WeighedRow) (place : ℕ) (entry : Entry) → shows_at alive_entry rows place ≡ Some entry → shows_at entry_of rows place ≡ Some entry
-alive_shows rows place entry is = in_row (slice_get rows place) is
-  where
-    by_mark : (alive : Bool) (o : Option Entry) → cond alive o None ≡ Some entry → o ≡ Some entry
-    by_mark true o is = is
-    by_mark false o is = absurd (cc)
-
-    in_row : (o : Option WeighedRow) → option_and_then alive_entry o ≡ Some entry → option_and_then entry_of o ≡ Some entry
-    in_row None none = absurd (cc)
-    in_row (Some row) some = by_mark row.alive (entry_of row) some
-
 -- a row after one was put in
 get_before : (xs : List WeighedRow) (place at : ℕ) (x : WeighedRow) → at < place → place ≤ length xs → slice_get (insert xs place x) at ≡ slice_get xs at
 get_before xs zero at x before within = absurd (let none : ⊥ = omega arith in none)
@@ -126,14 +105,9 @@ get_after [] (suc place) at x after = refl
 get_after (y ∷ xs) (suc place) zero x after = absurd (let none : ⊥ = omega arith in none)
 get_after (y ∷ xs) (suc place) (suc at) x after = get_after xs place at x (omega arith)
 
-get_new : (xs : List WeighedRow) (place : ℕ) (x : WeighedRow) → place ≤ length xs → slice_get (insert xs place x) place ≡ Some x
-get_new xs zero x within = refl
-get_new [] (suc place) x within = absurd (let none : ⊥ = omega arith in none)
-get_new (y ∷ xs) (suc place) x within = get_new xs place x (omega arith)
-
 pub moved_shows : (rows : List WeighedRow) (e : Evidence) (changed : Option ℕ) → e.place ≤ length rows → IsChanged rows e changed
     → shows_at entry_of (insert rows e.place (weighed_row e)) (moved_place e.place changed) ≡ changed_entry e.change
-moved_shows rows e None within own = ap (option_and_then entry_of) (get_new rows e.place (weighed_row e) within) ∙ own
+moved_shows rows e None within own = ap (option_and_then entry_of) (get-insert rows e.place (weighed_row e) within) ∙ own
 moved_shows rows e (Some place) within shows =
     elim (nat_lt place e.place) as (λ t. nat_lt place e.place ≡ t → shows_at entry_of (insert rows e.place (weighed_row e)) (cond t place (place + 1)) ≡ changed_entry e.change) [
       | true ↦ λ before. ap (option_and_then entry_of) (get_before rows e.place place (weighed_row e) (is_before before) within) ∙ shows
@@ -161,12 +135,6 @@ made_added rows e changed entry names within shows own =
     mark_marked entry (is_gain e.change) (insert rows e.place (weighed_row e)) (moved_place e.place changed) own (moved_shows rows e changed within shows ∙ names)
     ∙ sym (changed_is e.change entry (insert rows e.place (weighed_row e)) names)
 
-remove_map : (f : WeighedRow → WeighedRow) (rows : List WeighedRow) (place : ℕ) → remove (map f rows) place ≡ map f (remove rows place)
-remove_map f [] zero = refl
-remove_map f [] (suc place) = refl
-remove_map f (row ∷ rows) zero = refl
-remove_map f (row ∷ rows) (suc place) = ap (λ more. f row ∷ more) (remove_map f rows place)
-
 remove_mark : (rows : List WeighedRow) (place : ℕ) (alive : Bool) → remove (marked_at place alive rows) place ≡ remove rows place
 remove_mark [] place alive = refl
 remove_mark (row ∷ rows) zero alive = refl
@@ -177,10 +145,10 @@ pub made_cut : (rows : List WeighedRow) (e : Evidence) (changed : Option ℕ) (e
     → remove (marked_where changed (is_gain e.change) rows) e.place ≡ changed_marks e.change (remove rows e.place)
 made_cut rows e None entry names own_row own there =
     sym (remove_mark rows e.place (is_gain e.change)) ∙ ap (λ l. remove l e.place) (mark_marked entry (is_gain e.change) rows e.place own (there ∙ own_row ∙ names))
-    ∙ remove_map (with_mark entry (is_gain e.change)) rows e.place ∙ sym (changed_is e.change entry (remove rows e.place) names)
+    ∙ sym (remove-map (with_mark entry (is_gain e.change)) e.place rows) ∙ sym (changed_is e.change entry (remove rows e.place) names)
 made_cut rows e (Some place) entry names shows own there =
     ap (λ l. remove l e.place) (mark_marked entry (is_gain e.change) rows place own (shows ∙ names))
-    ∙ remove_map (with_mark entry (is_gain e.change)) rows e.place ∙ sym (changed_is e.change entry (remove rows e.place) names)
+    ∙ sym (remove-map (with_mark entry (is_gain e.change)) e.place rows) ∙ sym (changed_is e.change entry (remove rows e.place) names)
 
 -- the row that is cut adds what evidence says
 pub cut_there : (rows : List WeighedRow) (place number : ℕ) (op : Op) → slice_get (rows_of rows) place ≡ Some (record { number = number; time = 0; op = op }) → shows_at entry_of rows place ≡ added_as op number
@@ -201,4 +169,4 @@ where_rows None alive rows = refl
 where_rows (Some place) alive rows = weighed_rows place alive rows
 
 pub own_added : (rows : List WeighedRow) (place : ℕ) (row : WeighedRow) → HaveOwnNumbers (rows_of rows) → has_number row.number (rows_of rows) ≡ false → HaveOwnNumbers (rows_of (insert rows place row))
-own_added rows place row own fresh = rw (insert_rows place rows row) (own_numbers_with (rows_of rows) place (unweighed row) own (is_fresh row.number (rows_of rows) fresh))
+own_added rows place row own fresh = rw (insert-map unweighed place rows row) (own_numbers_with (rows_of rows) place (unweighed row) own (is_fresh row.number (rows_of rows) fresh))

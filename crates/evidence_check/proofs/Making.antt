@@ -1,8 +1,9 @@
 -- An edit that is accepted, made with its mark: what its steps ask for, and what they come to.
-use Rattle.std.proofs.Common.{◌≡◌, ℕ, suc, ◌<◌, ◌≤◌, Bool, true, false, ◌&&◌, List, length, refl, sym, ap, ◌∙◌, arith, Option, Some, None}
+use Rattle.std.proofs.Common.{◌≡◌, ℕ, ◌+◌, ◌<◌, ◌≤◌, Bool, true, false, ◌&&◌, List, length, refl, sym, ap, ◌∙◌, arith, Option, Some, None}
 use Rattle.std.specs.Prelude.{nat_le, insert, remove, IfSome}
 use Rattle.std.specs.BTreeSet.{BTreeSet}
 use Rattle.std.proofs.lemmas.Bool.Decides.{nat_tests}
+use Rattle.std.proofs.lemmas.List.Edits.{length-insert}
 use Rattle.retro_base.specs.declared.row.Entry.{Entry}
 use Rattle.retro_base.specs.ChangeLaws.{OneChangeOfPq}
 use Rattle.retro_base.specs.Limits.{most_rows}
@@ -17,7 +18,7 @@ use Rattle.evidence_check.specs.Marks.{MarksSurvivors, changed_marks, edited_row
 use Rattle.evidence_check.specs.Parts.{marked_at, shows_at}
 use Rattle.evidence_check.specs.Truth.{cause_of, has_number, has_wrong_number, has_wrong_op, is_outside, reported_edit, reported_row}
 use Rattle.evidence_check.proofs.Accepted.{Accepted, accepted_from}
-use Rattle.evidence_check.proofs.Flat.{length_insert, length_marked}
+use Rattle.evidence_check.proofs.Flat.{length_marked}
 use Rattle.evidence_check.proofs.Marks.{kept_after}
 use Rattle.evidence_check.proofs.Made.{cut_there, made_added, made_cut, weighed_rows, moved_shows, own_added, where_rows}
 use Rattle.evidence_check.proofs.Marking.{length_rows}
@@ -96,7 +97,7 @@ module _ (old : List WeighedRow) (e : Evidence) (kept : MarksSurvivors old) (is 
   pub few_added : e.added ≡ true → (rows : List WeighedRow) → rows ≡ insert old e.place (weighed_row e) → length rows ≤ most_rows
   few_added added rows is_rows =
       let room = room_added added in
-      let long : length rows ≡ suc (length old) = ap length is_rows ∙ length_insert old e.place (weighed_row e) (place_added added) in
+      let long : length rows ≡ length old + 1 = ap length is_rows ∙ length-insert old e.place (weighed_row e) (place_added added) in
       omega (arith, room, long)
 
   pub kept_made : OneChangeOfPq → (after : List WeighedRow) (numbers : BTreeSet ℕ) → after ≡ changed_marks e.change (edited_rows old e.added e.place (weighed_row e)) → AreNumbers (rows_of after) numbers

@@ -1,30 +1,27 @@
 -- Marked rows, and the rows that are marked.
-use Rattle.std.proofs.Common.{◌≡◌, ℕ, zero, suc, List, [], ◌∷◌, length, take, drop, refl, ap}
+use Rattle.std.proofs.Common.{◌≡◌, ℕ, zero, suc, List, [], ◌∷◌, length, map, take, drop, refl, ap}
 use Rattle.std.specs.Prelude.{insert, remove}
-use Rattle.std.proofs.lemmas.List.{take-map}
+use Rattle.std.proofs.lemmas.List.{drop-map, length-map, take-map}
 use Rattle.evidence_check.specs.declared.weighed_row.WeighedRow.{WeighedRow}
 use Rattle.evidence_check.specs.Marks.{unweighed, rows_of}
 
+-- an edit of what is read of each element
+pub insert-map : {A B : Type 0} (f : A → B) (place : ℕ) (xs : List A) (x : A) → map f (insert xs place x) ≡ insert (map f xs) place (f x)
+insert-map f zero xs x = refl
+insert-map f (suc place) [] x = refl
+insert-map f (suc place) (first ∷ others) x = ap (λ more. f first ∷ more) (insert-map f place others x)
+
+pub remove-map : {A B : Type 0} (f : A → B) (place : ℕ) (xs : List A) → map f (remove xs place) ≡ remove (map f xs) place
+remove-map f zero [] = refl
+remove-map f zero (first ∷ others) = refl
+remove-map f (suc place) [] = refl
+remove-map f (suc place) (first ∷ others) = ap (λ more. f first ∷ more) (remove-map f place others)
+
 pub length_rows : (marked : List WeighedRow) → length (rows_of marked) ≡ length marked
-length_rows [] = refl
-length_rows (first ∷ others) = ap (λ n. suc n) (length_rows others)
+length_rows marked = length-map marked unweighed
 
 pub take_rows : (place : ℕ) (marked : List WeighedRow) → take place (rows_of marked) ≡ rows_of (take place marked)
 take_rows place marked = take-map unweighed place marked
 
 pub drop_rows : (place : ℕ) (marked : List WeighedRow) → drop place (rows_of marked) ≡ rows_of (drop place marked)
-drop_rows zero marked = refl
-drop_rows (suc place) [] = refl
-drop_rows (suc place) (first ∷ others) = drop_rows place others
-
--- an edit of the marked rows is one of the rows
-pub insert_rows : (place : ℕ) (marked : List WeighedRow) (row : WeighedRow) → rows_of (insert marked place row) ≡ insert (rows_of marked) place (unweighed row)
-insert_rows zero marked row = refl
-insert_rows (suc place) [] row = refl
-insert_rows (suc place) (first ∷ others) row = ap (λ rows. unweighed first ∷ rows) (insert_rows place others row)
-
-pub remove_rows : (place : ℕ) (marked : List WeighedRow) → rows_of (remove marked place) ≡ remove (rows_of marked) place
-remove_rows zero [] = refl
-remove_rows zero (first ∷ others) = refl
-remove_rows (suc place) [] = refl
-remove_rows (suc place) (first ∷ others) = ap (λ rows. unweighed first ∷ rows) (remove_rows place others)
+drop_rows place marked = drop-map unweighed place marked

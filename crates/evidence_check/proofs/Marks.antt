@@ -31,7 +31,7 @@ use Rattle.evidence_check.specs.Marks.{MarksSurvivors, IsMarked, adds, changed_m
 use Rattle.evidence_check.specs.Truth.{cause_of, edit_with, is_full, is_outside, has_wrong_number, rows_after, reported_edit}
 use Rattle.evidence_check.proofs.Accepted.{accepted_from}
 use Rattle.evidence_check.proofs.Survivors.{fresh_entry}
-use Rattle.evidence_check.proofs.Marking.{insert_rows, length_rows, remove_rows}
+use Rattle.evidence_check.proofs.Marking.{insert-map, length_rows, remove-map}
 use Rattle.evidence_check.proofs.KeptNumbers.{swapped}
 use Rattle.evidence_check.proofs.Possible.{is_fresh, of_pq, possible}
 
@@ -109,8 +109,8 @@ rows_changed (Gain bridge entry) rows = rows_marked entry true rows
 rows_changed (Lose bridge entry) rows = rows_marked entry false rows
 
 rows_edited : (added : Bool) (marked : List WeighedRow) (place : ℕ) (row : WeighedRow) → rows_of (edited_rows marked added place row) ≡ edited (rows_of marked) (edit_with added place (unweighed row))
-rows_edited true marked place row = insert_rows place marked row
-rows_edited false marked place row = remove_rows place marked
+rows_edited true marked place row = insert-map unweighed place marked row
+rows_edited false marked place row = remove-map unweighed place marked
 
 pub rows_reported : (marked : List WeighedRow) (e : Evidence) → rows_of (changed_marks e.change (edited_rows marked e.added e.place (weighed_row e))) ≡ rows_after (rows_of marked) e
 rows_reported marked e = rows_changed e.change _ ∙ rows_edited e.added marked e.place (weighed_row e)

@@ -18,7 +18,7 @@ use Rattle.evidence_check.specs.Marks.{MarksSurvivors, IsMarked, alive_entry, de
 use Rattle.evidence_check.specs.Truth.{edit_with}
 use Rattle.evidence_check.proofs.Marking.{take_rows, drop_rows}
 
-all_take : {X : Type 0} (P : X → Type 0) (n : ℕ) (xs : List X) → AllByRecursion P xs → AllByRecursion P (take n xs)
+pub all_take : {X : Type 0} (P : X → Type 0) (n : ℕ) (xs : List X) → AllByRecursion P xs → AllByRecursion P (take n xs)
 all_take P zero xs all = tt
 all_take P (suc n) [] all = tt
 all_take P (suc n) (x ∷ xs) all = (all.0, all_take P n xs all.1)

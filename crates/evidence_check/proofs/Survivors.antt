@@ -4,7 +4,7 @@ use Rattle.std.specs.List.{AllByRecursion}
 use Rattle.std.specs.Result.{result_unwrap_or}
 use Rattle.retro_base.specs.declared.kind.Kind.TheVariants.{Pq}
 use Rattle.retro_base.specs.declared.op.Op.{Op}
-use Rattle.retro_base.specs.declared.op.Op.TheVariants.{Enq, Deq, Push, Pop, PushL, PushR, PopL, PopR, Put, Del, Ins, DelMin}
+use Rattle.retro_base.specs.declared.op.Op.TheVariants.{Ins, DelMin}
 use Rattle.retro_base.specs.declared.row.Entry.{Entry}
 use Rattle.retro_base.specs.declared.row.Row.{Row}
 use Rattle.retro_base.specs.Bridges.{entries_of, is_among, survivors}
@@ -48,21 +48,12 @@ module _ (P : Entry → Type 0) where
       → ((more : List Entry) → AllByRecursion P more → AllByRecursion P (left rows more)) → AllByRecursion P held
       → AllByRecursion P (left (record { number = own; time = time; op = op } ∷ rows) held)
   unfolding fold_rows perform
-  next (Enq v) own time rows held kind adds rest all = absurd (cc)
-  next Deq own time rows held kind adds rest all = absurd (cc)
-  next (Push v) own time rows held kind adds rest all = absurd (cc)
-  next Pop own time rows held kind adds rest all = absurd (cc)
-  next (PushL v) own time rows held kind adds rest all = absurd (cc)
-  next (PushR v) own time rows held kind adds rest all = absurd (cc)
-  next PopL own time rows held kind adds rest all = absurd (cc)
-  next PopR own time rows held kind adds rest all = absurd (cc)
-  next (Put k v) own time rows held kind adds rest all = absurd (cc)
-  next (Del k) own time rows held kind adds rest all = absurd (cc)
   next (Ins key) own time rows held kind adds rest all =
       let new : Entry = record { key = key; number = own } in
       rw (same_state (run rows (entries (with_entry new held))) (entries [])) (rest (with_entry new held) (all_with_entry new held (adds new refl) all))
   next DelMin own time rows [] kind adds rest all = tt
   next DelMin own time rows (first ∷ others) kind adds rest all = rw (same_state (run rows (entries others)) (entries [])) (rest others all.1)
+  next op own time rows held kind adds rest all = absurd (cc)
 
   all_left : (rows : List Row) (held : List Entry) → AreOfKind Pq rows → AllByRecursion Adds rows → AllByRecursion P held → AllByRecursion P (left rows held)
   unfolding fold_rows

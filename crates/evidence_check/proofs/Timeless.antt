@@ -1,12 +1,14 @@
 -- The times of rows have no part in what they hold, in their bridges and in the change of an edit.
-use Rattle.std.proofs.Common.{◌≡◌, ℕ, zero, suc, ◌-◌, true, false, List, [], ◌∷◌, length, take, refl, ap, ◌∙◌, Option, Some, None, Result, Err}
-use Rattle.std.specs.Prelude.{insert, remove, slice_get}
+use Rattle.std.proofs.Common.{◌≡◌, ℕ, zero, suc, ◌-◌, true, false, List, [], ◌∷◌, length, take, refl, sym, ap, ◌∙◌, Option, Some, None, Result, Err}
+use Rattle.std.specs.Prelude.{option_map, slice_get}
 use Rattle.std.specs.List.{list_all}
+use Rattle.std.proofs.lemmas.List.{length-map, take-map}
+use Rattle.std.proofs.lemmas.Option.{slice_get-map}
 use Rattle.std.specs.Option.{option_map_or}
 use Rattle.std.specs.Result.{result_err, result_unwrap_or}
 use Rattle.retro_base.specs.declared.kind.Kind.TheVariants.{Pq}
 use Rattle.retro_base.specs.declared.op.Op.{Op}
-use Rattle.retro_base.specs.declared.op.Op.TheVariants.{Enq, Deq, Push, Pop, PushL, PushR, PopL, PopR, Put, Del, Ins, DelMin}
+use Rattle.retro_base.specs.declared.op.Op.TheVariants.{Ins, DelMin}
 use Rattle.retro_base.specs.declared.row.Entry.{Entry}
 use Rattle.retro_base.specs.declared.row.Row.{Row}
 use Rattle.retro_base.specs.Bridges.{entries_at, entries_of, first_bridge, first_bridge_among, is_among, is_bridge, last_bridge, stated_bridge, survives, survivors}
@@ -15,6 +17,7 @@ use Rattle.retro_base.specs.Edits.{Edit, add, cut, edited}
 use Rattle.retro_base.specs.Replay.{failure, fold_rows, one_later, run}
 use Rattle.retro_base.specs.State.{State, empty, step}
 use Rattle.evidence_check.specs.Laws.{timeless, without_time}
+use Rattle.evidence_check.proofs.Marking.{insert-map, remove-map}
 
 -- the same edit, without the time of its row
 abbrev pub timeless_edit : Edit → Edit
@@ -37,19 +40,13 @@ failure_timeless rows = ap (λ r. result_err r) (run_timeless rows (empty Pq))
 pub survivors_timeless : (rows : List Row) → survivors (timeless rows) ≡ survivors rows
 survivors_timeless rows = ap (λ r. entries_of (result_unwrap_or r (empty Pq))) (run_timeless rows (empty Pq))
 
-take_timeless : (place : ℕ) (rows : List Row) → take place (timeless rows) ≡ timeless (take place rows)
-take_timeless zero rows = refl
-take_timeless (suc place) [] = refl
-take_timeless (suc place) (row ∷ rows) = ap (λ more. without_time row ∷ more) (take_timeless place rows)
-
 entries_timeless : (rows : List Row) (place : ℕ) → entries_at (timeless rows) place ≡ entries_at rows place
 entries_timeless rows place =
-    ap (λ some. entries_of (result_unwrap_or (run some (empty Pq)) (empty Pq))) (take_timeless place rows)
+    ap (λ some. entries_of (result_unwrap_or (run some (empty Pq)) (empty Pq))) (take-map without_time place rows)
     ∙ ap (λ r. entries_of (result_unwrap_or r (empty Pq))) (run_timeless (take place rows) (empty Pq))
 
 pub length_timeless : (rows : List Row) → length (timeless rows) ≡ length rows
-length_timeless [] = refl
-length_timeless (row ∷ rows) = ap (λ n. suc n) (length_timeless rows)
+length_timeless rows = length-map rows without_time
 
 -- bridges
 bridge_timeless : (rows : List Row) (place : ℕ) → is_bridge (timeless rows) place ≡ is_bridge rows place
@@ -70,16 +67,6 @@ first_timeless rows place = ap (λ n. first_bridge_among (n - place) (timeless r
 
 cut_stated : (rows : List Row) (op : Op) (place number time : ℕ)
     → stated_bridge (timeless rows) (cut place (record { number = number; time = 0; op = op })) ≡ stated_bridge rows (cut place (record { number = number; time = time; op = op }))
-cut_stated rows (Enq v) place number time = refl
-cut_stated rows Deq place number time = refl
-cut_stated rows (Push v) place number time = refl
-cut_stated rows Pop place number time = refl
-cut_stated rows (PushL v) place number time = refl
-cut_stated rows (PushR v) place number time = refl
-cut_stated rows PopL place number time = refl
-cut_stated rows PopR place number time = refl
-cut_stated rows (Put k v) place number time = refl
-cut_stated rows (Del k) place number time = refl
 cut_stated rows (Ins key) place number time =
     let entry : Entry = record { key = key; number = number } in
     let same : survives (timeless rows) entry ≡ survives rows entry = rw (survivors_timeless rows) refl in
@@ -89,41 +76,22 @@ cut_stated rows (Ins key) place number time =
       | false ↦ λ dead. rw (same ∙ dead, dead) (ap Some (first_timeless rows (suc place)))
     ] refl
 cut_stated rows DelMin place number time = ap Some (last_timeless rows place)
+cut_stated rows op place number time = refl
 
 add_stated : (rows : List Row) (op : Op) (place number time : ℕ)
     → stated_bridge (timeless rows) (add place (record { number = number; time = 0; op = op })) ≡ stated_bridge rows (add place (record { number = number; time = time; op = op }))
-add_stated rows (Enq v) place number time = refl
-add_stated rows Deq place number time = refl
-add_stated rows (Push v) place number time = refl
-add_stated rows Pop place number time = refl
-add_stated rows (PushL v) place number time = refl
-add_stated rows (PushR v) place number time = refl
-add_stated rows PopL place number time = refl
-add_stated rows PopR place number time = refl
-add_stated rows (Put k v) place number time = refl
-add_stated rows (Del k) place number time = refl
 add_stated rows (Ins key) place number time = ap Some (last_timeless rows place)
 add_stated rows DelMin place number time = ap Some (first_timeless rows place)
+add_stated rows op place number time = refl
 
 pub stated_timeless : (rows : List Row) (edit : Edit) → stated_bridge (timeless rows) (timeless_edit edit) ≡ stated_bridge rows edit
 stated_timeless rows (add place row) = add_stated rows row.op place row.number row.time
 stated_timeless rows (cut place row) = cut_stated rows row.op place row.number row.time
 
 -- edits
-insert_timeless : (place : ℕ) (rows : List Row) (row : Row) → insert (timeless rows) place (without_time row) ≡ timeless (insert rows place row)
-insert_timeless zero rows row = refl
-insert_timeless (suc place) [] row = refl
-insert_timeless (suc place) (first ∷ rows) row = ap (λ more. without_time first ∷ more) (insert_timeless place rows row)
-
-remove_timeless : (place : ℕ) (rows : List Row) → remove (timeless rows) place ≡ timeless (remove rows place)
-remove_timeless zero [] = refl
-remove_timeless zero (first ∷ rows) = refl
-remove_timeless (suc place) [] = refl
-remove_timeless (suc place) (first ∷ rows) = ap (λ more. without_time first ∷ more) (remove_timeless place rows)
-
 pub edited_timeless : (rows : List Row) (edit : Edit) → edited (timeless rows) (timeless_edit edit) ≡ timeless (edited rows edit)
-edited_timeless rows (add place row) = insert_timeless place rows row
-edited_timeless rows (cut place row) = remove_timeless place rows
+edited_timeless rows (add place row) = sym (insert-map without_time place rows row)
+edited_timeless rows (cut place row) = sym (remove-map without_time place rows)
 
 pub change_timeless : (rows : List Row) (edit : Edit) → change_of Pq (timeless rows) (timeless_edit edit) ≡ change_of Pq rows edit
 change_timeless rows edit =
@@ -135,6 +103,4 @@ change_timeless rows edit =
     ∙ ap (λ held. change_at (stated_bridge rows edit) (first_beyond (survivors (edited rows edit)) held) (first_beyond held (survivors (edited rows edit)))) (survivors_timeless rows)
 
 pub get_timeless : (rows : List Row) (place : ℕ) (row : Row) → slice_get rows place ≡ Some row → slice_get (timeless rows) place ≡ Some (without_time row)
-get_timeless [] place row there = absurd (cc)
-get_timeless (first ∷ rows) zero row there = let same : first ≡ row = cc in rw same refl
-get_timeless (first ∷ rows) (suc place) row there = get_timeless rows place row there
+get_timeless rows place row there = slice_get-map without_time rows place ∙ ap (option_map without_time) there

@@ -1,11 +1,11 @@
 -- A walk over parts that follow one another: what holds of the rows passed, after one part more.
-use Rattle.std.proofs.Common.{◌≡◌, ℕ, zero, suc, ◌+◌, ◌-◌, ◌<◌, ◌≤◌, ℤ, pos, w32, SFits, Bool, true, false, cond, List, [], ◌∷◌, ◌++◌, length, take, drop, get_or, refl, sym, ap, ◌∙◌, arith, inl, inr, Option, Some, None}
+use Rattle.std.proofs.Common.{◌≡◌, ℕ, zero, suc, ◌+◌, ◌-◌, ◌<◌, ◌≤◌, ℤ, pos, w32, SFits, to_z, of_z, Bool, true, false, cond, List, [], ◌∷◌, ◌++◌, length, take, drop, get_or, refl, sym, ap, ◌∙◌, arith, inl, inr, Option, Some, None}
 use Rattle.std.proofs.Common.{append_assoc, length-append}
 use Rattle.std.specs.Prelude.{◌+ℤ◌, ◌-ℤ◌, ◌≤ℤ◌, slice_get}
 use Rattle.std.specs.List.{flat_map}
 use Rattle.std.specs.Option.{option_and_then}
 use Rattle.std.proofs.lemmas.Bool.{cases_lt}
-use Rattle.std.proofs.lemmas.Int.{ints}
+use Rattle.std.proofs.lemmas.Int.{ints, to_z-of_z}
 use Rattle.std.proofs.lemmas.Option.{slice_get_read}
 use Rattle.retro_base.specs.declared.row.Entry.{Entry}
 use Rattle.retro_base.specs.Limits.{most_rows}
@@ -13,15 +13,19 @@ use Rattle.retro_base.specs.lemmas.bridges.EntryOrder.{same_entry-same, same_ent
 use Rattle.evidence_check.specs.declared.weighed_row.WeighedRow.{WeighedRow}
 use Rattle.evidence_check.specs.declared.sums.Sums.{Sums}
 use Rattle.retro_base.specs.Better.{comes_after, better_of}
+use Rattle.evidence_check.specs.Marks.{alive_entry, dead_entry, greatest_dead, least_alive}
+use Rattle.retro_base.specs.lemmas.bridges.Best.{better_none}
 use Rattle.retro_base.specs.State.{comes_before}
-use Rattle.evidence_check.specs.Marks.{greatest_dead, least_alive}
+use Rattle.evidence_check.specs.Sought.{beaten_in, best_beside, shown_by}
+use Rattle.evidence_check.specs.declared.better.Sought.{Sought}
+use Rattle.evidence_check.specs.declared.better.Sought.TheVariants.{Dead, Alive}
 use Rattle.evidence_check.specs.Parts.{is_entry, shows_at}
 use Rattle.evidence_check.specs.Sums.{HasRoom, joined, sum_of, sums_of}
 use Rattle.evidence_check.specs.Zeros.{HasNoZero, IsFirstZero, IsLastZero, IsZero}
 use Rattle.evidence_check.proofs.Flat.{drop-join, flat_around, flat_next, get_first, get_second, take-join}
 use Rattle.evidence_check.proofs.SumsJoined.{alive-join, dead-join, sum-down, sum-join, sum-up, sums-join}
-use Rattle.evidence_check.proofs.Stored.{within_fits}
-use Rattle.evidence_check.proofs.Zeros.{NoneAfter, NoneBefore, first_zero, none_joined, second_zero, zero_first, zero_second}
+use Rattle.evidence_check.proofs.Stored.{stored_add, stored_less, sum_fits, within_fits}
+use Rattle.evidence_check.proofs.Zeros.{NoneAfter, NoneBefore, few_of, first_zero, none_joined, second_zero, zero_first, zero_second}
 
 -- which entry is found
 pub found_is : (found : Option Entry) (entry : Entry) → is_entry found entry ≡ true → found ≡ Some entry
@@ -40,6 +44,41 @@ pub shown_within : (shown : WeighedRow → Option Entry) (rows : List WeighedRow
 shown_within shown [] place entry is = absurd (cc)
 shown_within shown (first ∷ others) zero entry is = omega arith
 shown_within shown (first ∷ others) (suc place) entry is = let rest = shown_within shown others place entry is in omega (arith, rest)
+
+-- the best entry beside a place, of no rows, and of some and others
+pub best_of_none : (sought : Sought) (place : ℕ) → None ≡ best_beside sought place []
+best_of_none Dead zero = refl
+best_of_none Dead (suc place) = refl
+best_of_none Alive zero = refl
+best_of_none Alive (suc place) = refl
+
+-- and of one row that shows it
+pub best_here : (sought : Sought) (place : ℕ) (row : WeighedRow) (entry : Entry) → best_beside sought place (row ∷ []) ≡ Some entry → shown_by sought row ≡ Some entry
+best_here Dead zero row entry is = sym (better_none comes_before (dead_entry row)) ∙ is
+best_here Dead (suc zero) row entry is = absurd (cc)
+best_here Dead (suc (suc place)) row entry is = absurd (cc)
+best_here Alive zero row entry is = absurd (cc)
+best_here Alive (suc zero) row entry is = sym (better_none comes_after (alive_entry row)) ∙ is
+best_here Alive (suc (suc place)) row entry is = sym (better_none comes_after (alive_entry row)) ∙ is
+
+best_joined : (sought : Sought) (place : ℕ) (xs ys : List WeighedRow)
+    → best_beside sought place (xs ++ ys) ≡ better_of (beaten_in sought) (best_beside sought place xs) (best_beside sought (place - length xs) ys)
+best_joined Dead place xs ys = ap greatest_dead (drop-join place xs ys) ∙ dead-join (drop place xs) (drop (place - length xs) ys)
+best_joined Alive place xs ys = ap least_alive (take-join place xs ys) ∙ alive-join (take place xs) (take (place - length xs) ys)
+
+-- sums of weights as they are stored, with those of one part more, and with those of one part fewer
+abbrev pub stored_on : ℤ → ℤ → ℤ
+stored_on sum part = sum +ℤ to_z w32 (of_z w32 part)
+
+abbrev pub stored_back : ℤ → ℤ → ℤ
+stored_back sum part = sum -ℤ to_z w32 (of_z w32 part)
+
+-- a part back: the sum and the rows before it
+pub record IsBack (before : ℤ) (first rows : List WeighedRow) (passed : ℕ) (sum : ℤ) (last : Sums) : Type 0 where
+  pub fits : SFits w32 (stored_back sum last.sum)
+  pub weights : to_z w32 (of_z w32 (stored_back sum last.sum)) ≡ before +ℤ sum_of first
+  pub count : passed - last.rows ≡ length first
+  pub after : passed ≡ (passed - last.rows) + length rows
 
 module _ {P : Type 0} (f : P → List WeighedRow) (parts : List P) (index : ℕ) (part : P) (within : index < length parts) (is : part ≡ get_or parts index part) where
   abbrev first : List WeighedRow
@@ -76,35 +115,21 @@ module _ {P : Type 0} (f : P → List WeighedRow) (parts : List P) (index : ℕ)
   sums_next sums other of_first of_part =
       ap (λ s. joined s other) of_first ∙ ap (joined (sums_of first)) of_part ∙ sym (sums-join first (f part)) ∙ ap sums_of (sym next)
 
-  pub dead_next : (from passed : ℕ) (greatest found : Option Entry) → passed ≡ length first → greatest ≡ greatest_dead (drop from first)
-      → found ≡ greatest_dead (drop (from - passed) (f part)) → better_of comes_before greatest found ≡ greatest_dead (drop from (flat_map f (take (index + 1) parts)))
-  dead_next from passed greatest found long is_greatest is_found =
-      ap (λ o. better_of comes_before o found) is_greatest
-      ∙ ap (better_of comes_before (greatest_dead (drop from first))) (is_found ∙ ap (λ n. greatest_dead (drop (from - n) (f part))) long)
-      ∙ sym (dead-join (drop from first) (drop (from - length first) (f part))) ∙ ap (greatest_dead) (sym (drop-join from first (f part)))
-      ∙ ap (λ l. greatest_dead (drop from l)) (sym next)
+  pub best_next : (sought : Sought) (place left : ℕ) (best found : Option Entry) → left ≡ place - length first → best ≡ best_beside sought place first
+      → found ≡ best_beside sought left (f part) → better_of (beaten_in sought) best found ≡ best_beside sought place (flat_map f (take (index + 1) parts))
+  best_next sought place left best found is_left is_best is_found =
+      ap (λ o. better_of (beaten_in sought) o found) is_best
+      ∙ ap (better_of (beaten_in sought) (best_beside sought place first)) (is_found ∙ ap (λ n. best_beside sought n (f part)) is_left)
+      ∙ sym (best_joined sought place first (f part)) ∙ ap (best_beside sought place) (sym next)
 
-  pub alive_next : (to passed : ℕ) (least found : Option Entry) → passed ≡ length first → least ≡ least_alive (take to first)
-      → found ≡ least_alive (take (to - passed) (f part)) → better_of comes_after least found ≡ least_alive (take to (flat_map f (take (index + 1) parts)))
-  alive_next to passed least found long is_least is_found =
-      ap (λ o. better_of comes_after o found) is_least
-      ∙ ap (better_of comes_after (least_alive (take to first))) (is_found ∙ ap (λ n. least_alive (take (to - n) (f part))) long)
-      ∙ sym (alive-join (take to first) (take (to - length first) (f part))) ∙ ap least_alive (sym (take-join to first (f part)))
-      ∙ ap (λ l. least_alive (take to l)) (sym next)
+  pub none_next_best : (sought : Sought) (place left : ℕ) (entry : Entry) (found : Option Entry) → left ≡ place - length first → is_entry (best_beside sought place first) entry ≡ false
+      → found ≡ best_beside sought left (f part) → is_entry found entry ≡ false → is_entry (best_beside sought place (flat_map f (take (index + 1) parts))) entry ≡ false
+  none_next_best sought place left entry found is_left before is_found other =
+      ap (λ o. is_entry o entry) (sym (best_next sought place left (best_beside sought place first) found is_left refl is_found))
+      ∙ neither (beaten_in sought) (best_beside sought place first) found entry before other
 
-  pub no_dead_next : (from passed : ℕ) (entry : Entry) (found : Option Entry) → passed ≡ length first → is_entry (greatest_dead (drop from first)) entry ≡ false
-      → found ≡ greatest_dead (drop (from - passed) (f part)) → is_entry found entry ≡ false
-      → is_entry (greatest_dead (drop from (flat_map f (take (index + 1) parts)))) entry ≡ false
-  no_dead_next from passed entry found long before is_found other =
-      ap (λ o. is_entry o entry) (sym (dead_next from passed (greatest_dead (drop from first)) found long refl is_found))
-      ∙ neither comes_before (greatest_dead (drop from first)) found entry before other
-
-  pub no_alive_next : (to passed : ℕ) (entry : Entry) (found : Option Entry) → passed ≡ length first → is_entry (least_alive (take to first)) entry ≡ false
-      → found ≡ least_alive (take (to - passed) (f part)) → is_entry found entry ≡ false
-      → is_entry (least_alive (take to (flat_map f (take (index + 1) parts)))) entry ≡ false
-  no_alive_next to passed entry found long before is_found other =
-      ap (λ o. is_entry o entry) (sym (alive_next to passed (least_alive (take to first)) found long refl is_found))
-      ∙ neither comes_after (least_alive (take to first)) found entry before other
+  pub left_next : (place left n : ℕ) → left ≡ place - length first → n ≡ length (f part) → left - n ≡ place - length (flat_map f (take (index + 1) parts))
+  left_next place left n is_left is_n = let passed = passed_next (length first) n refl is_n in omega (arith, passed)
 
   -- what a part shows
   pub shown_there : (shown : WeighedRow → Option Entry) (passed place : ℕ) (entry : Entry) → passed ≡ length first → shows_at shown (f part) place ≡ Some entry
@@ -250,3 +275,31 @@ module _ {P : Type 0} (f : P → List WeighedRow) (parts : List P) (index : ℕ)
       weights = weights;
       none = λ place one up down inside. none_later to passed found after place long is_after later here (omega arith) down inside;
     }
+
+  module _ (before : ℤ) (room : HasRoom before (length (flat_map f parts))) (sum : ℤ) (last : Sums) (is_last : last ≡ sums_of (f part)) where
+    part_fits : SFits w32 last.sum
+    part_fits = let is_sum : last.sum ≡ sum_of (f part) = ap (λ s. s.sum) is_last in rw is_sum (sum_fits (f part) (small most_rows (few_of before (length (flat_map f parts)) room)))
+
+    -- the sum with the part's
+    pub on_fits : sum ≡ before +ℤ sum_of first → SFits w32 (stored_on sum last.sum)
+    on_fits weights = rw (to_z-of_z w32 last.sum part_fits) (next_fits before room sum weights last.sum (ap (λ s. s.sum) is_last))
+
+    pub walk_on : (from passed found : ℕ) → NoneBefore before first from passed sum → found ≡ 0 → IsFirstZero sum (f part) (from - passed) found
+        → NoneBefore before (flat_map f (take (index + 1) parts)) from (passed + last.rows) (to_z w32 (of_z w32 (stored_on sum last.sum)))
+    walk_on from passed found so_far zeroes here =
+        none_next before room sum so_far.weights from passed found last.rows last.sum _ so_far zeroes here (ap (λ s. s.rows) is_last) (ap (λ s. s.sum) is_last)
+        (stored_add sum last.sum part_fits (next_fits before room sum so_far.weights last.sum (ap (λ s. s.sum) is_last)))
+
+    -- the sum without it
+    pub walk_back : (to at passed : ℕ) → at ≡ index + 1 → NoneAfter before (flat_map f parts) (flat_map f (take at parts)) to passed sum → IsBack before first (f part) passed sum last
+    walk_back to at passed is_at none =
+        let here : NoneAfter before (flat_map f parts) (flat_map f (take (index + 1) parts)) to passed sum = rw is_at at none in
+        let rows = rows_back passed last.rows here.rows (ap (λ s. s.rows) is_last) in
+        let weights : (sum -ℤ last.sum) ≡ before +ℤ sum_of first = weights_back before sum last.sum here.weights (ap (λ s. s.sum) is_last) in
+        let left_fits : SFits w32 (sum -ℤ last.sum) = here_fits before room (sum -ℤ last.sum) weights in
+        record {
+          fits = rw (to_z-of_z w32 last.sum part_fits) left_fits;
+          weights = stored_less sum last.sum part_fits left_fits ∙ weights;
+          count = rows.0;
+          after = rows.1;
+        }

@@ -20,6 +20,7 @@ use Rattle.retro_base.specs.Carried.{IsPqHistory}
 use Rattle.retro_base.specs.Weights.{added_by, dead_at, weight, weight_as}
 use Rattle.evidence_check.specs.declared.weighed_row.WeighedRow.{WeighedRow}
 use Rattle.evidence_check.proofs.Marking.{length_rows, take_rows}
+use Rattle.evidence_check.proofs.Shown.{all_take}
 use Rattle.retro_base.specs.lemmas.bridges.Entries.{In}
 use Rattle.retro_base.specs.lemmas.bridges.Tests.{in_is_among}
 use Rattle.evidence_check.specs.Marks.{MarksSurvivors, IsMarked, entry_of, rows_of}
@@ -77,11 +78,6 @@ weights_folded survive start (first ∷ others) all =
   where
     moved : (a b c : ℤ) → ((a +ℤ b) +ℤ c) ≡ (a +ℤ (b +ℤ c))
     moved a b c = omega (arith, ints)
-
-all_take : {X : Type 0} (P : X → Type 0) (place : ℕ) (xs : List X) → AllByRecursion P xs → AllByRecursion P (take place xs)
-all_take P zero xs all = tt
-all_take P (suc place) [] all = tt
-all_take P (suc place) (x ∷ xs) all = (all.0, all_take P place xs all.1)
 
 -- the weights of marked rows count the dead
 pub sum_counts : WeightsCountTheDead → (marked : List WeighedRow) → MarksSurvivors marked → (place : ℕ) → (pos 0 +ℤ sum_of (take place marked)) ≡ pos (dead_at (rows_of marked) place)

@@ -4,6 +4,7 @@ pub mod JudgementLaws
 pub mod Laws
 pub mod Refused
 pub mod Marks
+pub mod Sought
 pub mod KeptNumbers
 pub mod Sums
 pub mod Parts

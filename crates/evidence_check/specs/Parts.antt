@@ -1,5 +1,5 @@
 -- Marked rows as those of parts that follow one another.
-use Rattle.std.specs.Prelude.{◌≡◌, ℕ, zero, suc, ◌+◌, ◌<◌, ◌≤◌, Bool, false, List, [], ◌∷◌, length, take, slice_get}
+use Rattle.std.specs.Prelude.{◌≡◌, ℕ, zero, suc, ◌+◌, ◌≤◌, Bool, false, List, [], ◌∷◌, length, take, slice_get}
 use Rattle.std.specs.Prelude.{Option, Some, None}
 use Rattle.std.specs.Option.{option_and_then}
 use Rattle.std.specs.List.{flat_map}
@@ -28,18 +28,10 @@ abbrev pub rest_of : {P : Type 0} → (P → List WeighedRow) → Option P → L
 rest_of rows None = []
 rest_of rows (Some part) = rows part
 
--- the part that holds the row at a place, and how many rows stand before it
-pub record Holds {P : Type 0} (rows : P → List WeighedRow) (parts : List P) (place : ℕ) (held : Held) : Type 0 where
+-- the part in which a place lies, with so many rows at least from there on, and how many rows stand before it
+pub record Holds {P : Type 0} (rows : P → List WeighedRow) (parts : List P) (least place : ℕ) (held : Held) : Type 0 where
   pub part : P
   pub there : slice_get parts held.index ≡ Some part
   pub before : held.before ≡ length (flat_map rows (take held.index parts))
   pub from : held.before ≤ place
-  pub to : place < held.before + length (rows part)
-
--- the part into which a row at a place goes
-pub record HoldsBefore {P : Type 0} (rows : P → List WeighedRow) (parts : List P) (place : ℕ) (held : Held) : Type 0 where
-  pub part : P
-  pub there : slice_get parts held.index ≡ Some part
-  pub before : held.before ≡ length (flat_map rows (take held.index parts))
-  pub from : held.before ≤ place
-  pub to : place ≤ held.before + length (rows part)
+  pub to : place + least ≤ held.before + length (rows part)

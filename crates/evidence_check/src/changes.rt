@@ -10,7 +10,7 @@ ghost use Rattle.evidence_check.specs.Marks.{MarksSurvivors, cause_against, is_a
 ghost use Rattle.evidence_check.specs.Truth.{bridge_of, cause_of, change_cause, is_outside, same_bridge, same_change, reported_edit};
 
 use crate::CheckError;
-use crate::better::later_of;
+use crate::better::{Sought, better_of};
 use crate::pack::Pack;
 use crate::part::Part;
 use crate::rows::{first_bridge, last_bridge};
@@ -94,7 +94,7 @@ fn gained<P: Part>(rows: &Pack<P>, place: u32, new: Option<Entry>) -> Option<Cha
     ensures { result ≡ gained (rows_of rows.now) (last_bridge (rows_of rows.now) place) new }
 {
     let bridge = last_bridge(rows, place);
-    let entry = later_of(new, rows.dead_from(bridge))?;
+    let entry = better_of(Sought::Dead, new, rows.best(Sought::Dead, bridge))?;
     Some(Change::Gain { bridge, entry })
 }
 
@@ -105,7 +105,7 @@ fn lost<P: Part>(rows: &Pack<P>, place: u32) -> Option<Change>
     ensures { result ≡ lost (rows_of rows.now) (first_bridge (rows_of rows.now) place) }
 {
     let bridge = first_bridge(rows, place);
-    let entry = rows.alive_to(bridge)?;
+    let entry = rows.best(Sought::Alive, bridge)?;
     Some(Change::Lose {
         bridge: Some(bridge),
         entry,

@@ -14,6 +14,7 @@ ghost use Rattle.evidence_check.specs.Parts.{is_entry, marked_at};
 ghost use Rattle.evidence_check.specs.Truth.{cause_of, has_number, has_wrong_number, reported_edit};
 
 use crate::CheckError;
+use crate::better::Sought;
 use crate::changes::read_change;
 use crate::numbers::Numbers;
 use crate::pack::Pack;
@@ -77,14 +78,14 @@ fn changed_place<P: Part>(rows: &Pack<P>, evidence: &Evidence) -> Option<u32>
             if is_own(evidence, entry) {
                 None
             } else {
-                Some(rows.dead_place(bridge, entry))
+                Some(rows.best_place(Sought::Dead, bridge, entry))
             }
         }
         Change::Lose { bridge: None, .. } => None,
         Change::Lose {
             bridge: Some(bridge),
             entry,
-        } => Some(rows.alive_place(bridge, entry)),
+        } => Some(rows.best_place(Sought::Alive, bridge, entry)),
     }
 }
 

@@ -1,6 +1,7 @@
 //! A row as a part.
 
 use crate::CheckError;
+use crate::better::Sought;
 use crate::part::Part;
 use crate::sums::Sums;
 use crate::weighed_row::WeighedRow;
@@ -41,19 +42,16 @@ impl Part for WeighedRow {
         }
     }
 
-    fn dead_from(&self, from: u32) -> Option<Entry> {
-        if from == 0 { self.dead_entry() } else { None }
+    fn best(&self, sought: Sought, place: u32) -> Option<Entry> {
+        match (sought, place) {
+            (Sought::Dead, 0) => self.dead_entry(),
+            (Sought::Dead, _) => None,
+            (Sought::Alive, 0) => None,
+            (Sought::Alive, _) => self.alive_entry(),
+        }
     }
 
-    fn alive_to(&self, to: u32) -> Option<Entry> {
-        if to == 0 { None } else { self.alive_entry() }
-    }
-
-    fn dead_place(&self, _from: u32, _entry: Entry) -> u32 {
-        0
-    }
-
-    fn alive_place(&self, _to: u32, _entry: Entry) -> u32 {
+    fn best_place(&self, _sought: Sought, _place: u32, _entry: Entry) -> u32 {
         0
     }
 

@@ -6,10 +6,10 @@ ghost use Rattle.retro_base.specs.Limits.{most_rows};
 ghost use Rattle.evidence_check.specs.declared.error.CheckError.TheVariants as causes;
 
 use crate::CheckError;
+use crate::better::Sought;
 use crate::part::Part;
 use crate::search::{
-    alive_among, alive_place_among, dead_among, dead_place_among, first_zero_among,
-    last_zero_among, row_among, sums_among,
+    best_among, best_place_among, first_zero_among, last_zero_among, row_among, sums_among,
 };
 use crate::splice::{ROOM, insert_among, mark_among, remove_among, spill};
 use crate::sums::Sums;
@@ -138,32 +138,20 @@ impl<P: Part> Part for Pack<P> {
         first_zero_among(&self.parts, before, from)
     }
 
-    fn dead_from(&self, from: u32) -> Option<Entry> {
-        if from == 0 {
-            self.sums.dead
-        } else if from >= self.sums.rows {
-            None
-        } else {
-            dead_among(&self.parts, from)
+    fn best(&self, sought: Sought, place: u32) -> Option<Entry> {
+        if place > 0 && place < self.sums.rows {
+            return best_among(&self.parts, sought, place);
+        }
+        match (sought, place) {
+            (Sought::Dead, 0) => self.sums.dead,
+            (Sought::Dead, _) => None,
+            (Sought::Alive, 0) => None,
+            (Sought::Alive, _) => self.sums.alive,
         }
     }
 
-    fn alive_to(&self, to: u32) -> Option<Entry> {
-        if to == 0 {
-            None
-        } else if to >= self.sums.rows {
-            self.sums.alive
-        } else {
-            alive_among(&self.parts, to)
-        }
-    }
-
-    fn dead_place(&self, from: u32, entry: Entry) -> u32 {
-        dead_place_among(&self.parts, from, entry)
-    }
-
-    fn alive_place(&self, to: u32, entry: Entry) -> u32 {
-        alive_place_among(&self.parts, to, entry)
+    fn best_place(&self, sought: Sought, place: u32, entry: Entry) -> u32 {
+        best_place_among(&self.parts, sought, place, entry)
     }
 
     fn mark(&mut self, place: u32, alive: bool) {

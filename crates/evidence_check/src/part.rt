@@ -1,15 +1,16 @@
 //! What a part of the rows answers: a row is one, and a pack of parts is one.
 
-ghost use Rattle.std.specs.Prelude.{◌≡◌, ◌+◌, ◌<◌, ◌≤◌, ◌++◌, [], ◌∷◌, List, None, Some, length, take, drop, slice_get, insert, remove, OnErr, IfOk, IfErr};
+ghost use Rattle.std.specs.Prelude.{◌≡◌, ◌<◌, ◌≤◌, ◌++◌, [], ◌∷◌, List, Some, length, slice_get, insert, remove, OnErr, IfOk, IfErr};
 ghost use Rattle.retro_base.specs.Limits.{most_rows};
 ghost use Rattle.evidence_check.specs.declared.error.CheckError.TheVariants as causes;
 ghost use Rattle.evidence_check.specs.declared.weighed_row.WeighedRow.{WeighedRow};
-ghost use Rattle.evidence_check.specs.Marks.{alive_entry, dead_entry, greatest_dead, least_alive};
 ghost use Rattle.evidence_check.specs.Parts.{marked_at, rest_of, shows_at};
+ghost use Rattle.evidence_check.specs.Sought.{best_beside, shown_by};
 ghost use Rattle.evidence_check.specs.Sums.{HasRoom, sums_of};
 ghost use Rattle.evidence_check.specs.Zeros.{IsFirstZero, IsLastZero};
 
 use crate::CheckError;
+use crate::better::Sought;
 use crate::sums::Sums;
 use crate::weighed_row::WeighedRow;
 use retro_base::Entry;
@@ -27,12 +28,10 @@ pub(crate) trait Part: Drop {
 
     /// The sums of its rows.
     fn sums(&self) -> Sums
-        requires { length (rows self.now) ≤ most_rows }
         ensures { result ≡ sums_of (rows self.now) };
 
     /// The row at a place, where one stands there.
     fn row(&self, place: u32) -> Option<WeighedRow>
-        requires { length (rows self.now) ≤ most_rows }
         ensures { result ≡ slice_get (rows self.now) place };
 
     /// The last place up to `to`, after one of its rows, where the weights add up to 0 from `before` on, or else 0.
@@ -45,27 +44,15 @@ pub(crate) trait Part: Drop {
         requires { HasRoom before (length (rows self.now)) }
         ensures { IsFirstZero before (rows self.now) from result };
 
-    /// The greatest dead entry of its rows from a place on.
-    fn dead_from(&self, from: u32) -> Option<Entry>
-        requires { length (rows self.now) ≤ most_rows }
-        ensures { result ≡ greatest_dead (drop from (rows self.now)) };
+    /// The best entry that is sought beside a place.
+    fn best(&self, sought: Sought, place: u32) -> Option<Entry>
+        ensures { result ≡ best_beside sought place (rows self.now) };
 
-    /// The least entry that survives of its rows before a place.
-    fn alive_to(&self, to: u32) -> Option<Entry>
-        requires { length (rows self.now) ≤ most_rows }
-        ensures { result ≡ least_alive (take to (rows self.now)) };
-
-    /// The place of the row with the greatest dead entry from a place on.
-    fn dead_place(&self, from: u32, entry: Entry) -> u32
+    /// The place of the row that has it.
+    fn best_place(&self, sought: Sought, place: u32, entry: Entry) -> u32
         requires few { length (rows self.now) ≤ most_rows }
-        requires there { greatest_dead (drop from (rows self.now)) ≡ Some entry }
-        ensures { shows_at dead_entry (rows self.now) result ≡ Some entry };
-
-    /// The place of the row with the least entry that survives before a place.
-    fn alive_place(&self, to: u32, entry: Entry) -> u32
-        requires few { length (rows self.now) ≤ most_rows }
-        requires there { least_alive (take to (rows self.now)) ≡ Some entry }
-        ensures { shows_at alive_entry (rows self.now) result ≡ Some entry };
+        requires there { best_beside sought place (rows self.now) ≡ Some entry }
+        ensures { shows_at (shown_by sought) (rows self.now) result ≡ Some entry };
 
     /// Marks the row at a place.
     fn mark(&mut self, place: u32, alive: bool)

@@ -1,14 +1,14 @@
 //! What is looked for in parts that follow one another: each walk reads their sums, and opens the one or two in question.
 
-ghost use Rattle.std.specs.Prelude.{◌≡◌, ◌+◌, ◌-◌, ◌<◌, ◌≤◌, None, Some, length, take, drop, slice_get};
+ghost use Rattle.std.specs.Prelude.{◌≡◌, ◌-◌, ◌<◌, ◌≤◌, Some, length, slice_get};
 ghost use Rattle.std.specs.List.{flat_map};
 ghost use Rattle.retro_base.specs.Limits.{most_rows};
-ghost use Rattle.evidence_check.specs.Marks.{alive_entry, dead_entry, greatest_dead, least_alive};
 ghost use Rattle.evidence_check.specs.Parts.{Holds, is_entry, shows_at};
+ghost use Rattle.evidence_check.specs.Sought.{best_beside, shown_by};
 ghost use Rattle.evidence_check.specs.Sums.{HasRoom, sums_of};
 ghost use Rattle.evidence_check.specs.Zeros.{IsFirstZero, IsLastZero};
 
-use crate::better::{earlier_of, later_of};
+use crate::better::{Sought, better_of};
 use crate::part::Part;
 use crate::sums::Sums;
 use crate::weighed_row::{WeighedRow, is_same};
@@ -23,9 +23,8 @@ pub(crate) struct Held {
 
 /// The part that holds the row at a place.
 pub(crate) fn holding<P: Part>(parts: &[P], place: u32) -> Held
-    requires few { length (flat_map P.rows parts.now) ≤ most_rows }
-    requires within { place < length (flat_map P.rows parts.now) }
-    ensures { Holds P.rows parts.now place result }
+    requires { place < length (flat_map P.rows parts.now) }
+    ensures { Holds P.rows parts.now 1 place result }
 {
     let mut before = 0;
     for (index, part) in parts.iter().enumerate() {
@@ -52,8 +51,7 @@ pub(crate) fn sums_among<P: Part>(parts: &[P]) -> Sums
 
 /// The row at a place.
 pub(crate) fn row_among<P: Part>(parts: &[P], place: u32) -> Option<WeighedRow>
-    requires few { length (flat_map P.rows parts.now) ≤ most_rows }
-    requires within { place < length (flat_map P.rows parts.now) }
+    requires { place < length (flat_map P.rows parts.now) }
     ensures { result ≡ slice_get (flat_map P.rows parts.now) place }
 {
     let held = holding(parts, place);
@@ -100,62 +98,35 @@ pub(crate) fn first_zero_among<P: Part>(parts: &[P], before: i32, from: u32) -> 
     0
 }
 
-/// The greatest dead entry from a place on.
-pub(crate) fn dead_among<P: Part>(parts: &[P], from: u32) -> Option<Entry>
-    requires { length (flat_map P.rows parts.now) ≤ most_rows }
-    ensures { result ≡ greatest_dead (drop from (flat_map P.rows parts.now)) }
+/// The best entry that is sought beside a place.
+pub(crate) fn best_among<P: Part>(parts: &[P], sought: Sought, place: u32) -> Option<Entry>
+    ensures { result ≡ best_beside sought place (flat_map P.rows parts.now) }
 {
-    let mut passed = 0;
-    let mut greatest = None;
+    let mut left = place;
+    let mut best = None;
     for part in parts {
-        greatest = later_of(greatest, part.dead_from(beyond(from, passed)));
-        passed += part.sums().rows;
+        best = better_of(sought, best, part.best(sought, left));
+        left = beyond(left, part.sums().rows);
     }
-    greatest
+    best
 }
 
-/// The least entry that survives before a place.
-pub(crate) fn alive_among<P: Part>(parts: &[P], to: u32) -> Option<Entry>
-    requires { length (flat_map P.rows parts.now) ≤ most_rows }
-    ensures { result ≡ least_alive (take to (flat_map P.rows parts.now)) }
-{
-    let mut passed = 0;
-    let mut least = None;
-    for part in parts {
-        least = earlier_of(least, part.alive_to(beyond(to, passed)));
-        passed += part.sums().rows;
-    }
-    least
-}
-
-/// The place of the greatest dead entry from a place on: of the first part that has it.
-pub(crate) fn dead_place_among<P: Part>(parts: &[P], from: u32, entry: Entry) -> u32
+/// The place of the row that has it, in the first part with it.
+pub(crate) fn best_place_among<P: Part>(
+    parts: &[P],
+    sought: Sought,
+    place: u32,
+    entry: Entry,
+) -> u32
     requires few { length (flat_map P.rows parts.now) ≤ most_rows }
-    requires there { greatest_dead (drop from (flat_map P.rows parts.now)) ≡ Some entry }
-    ensures { shows_at dead_entry (flat_map P.rows parts.now) result ≡ Some entry }
+    requires there { best_beside sought place (flat_map P.rows parts.now) ≡ Some entry }
+    ensures { shows_at (shown_by sought) (flat_map P.rows parts.now) result ≡ Some entry }
 {
     let mut passed = 0;
     for part in parts {
-        let start = beyond(from, passed);
-        if is_entry(part.dead_from(start), entry) {
-            return passed + part.dead_place(start, entry);
-        }
-        passed += part.sums().rows;
-    }
-    unreachable!()
-}
-
-/// The place of the least entry that survives before a place: of the first part that has it.
-pub(crate) fn alive_place_among<P: Part>(parts: &[P], to: u32, entry: Entry) -> u32
-    requires few { length (flat_map P.rows parts.now) ≤ most_rows }
-    requires there { least_alive (take to (flat_map P.rows parts.now)) ≡ Some entry }
-    ensures { shows_at alive_entry (flat_map P.rows parts.now) result ≡ Some entry }
-{
-    let mut passed = 0;
-    for part in parts {
-        let end = beyond(to, passed);
-        if is_entry(part.alive_to(end), entry) {
-            return passed + part.alive_place(end, entry);
+        let left = beyond(place, passed);
+        if is_entry(part.best(sought, left), entry) {
+            return passed + part.best_place(sought, left, entry);
         }
         passed += part.sums().rows;
     }

@@ -4,7 +4,7 @@ ghost use Rattle.std.specs.Prelude.{◌≡◌, ◌+◌, ◌<◌, ◌≤◌, ◌+
 ghost use Rattle.std.specs.List.{flat_map};
 ghost use Rattle.retro_base.specs.Limits.{most_rows};
 ghost use Rattle.evidence_check.specs.declared.error.CheckError.TheVariants as causes;
-ghost use Rattle.evidence_check.specs.Parts.{HoldsBefore, marked_at};
+ghost use Rattle.evidence_check.specs.Parts.{Holds, marked_at};
 
 use crate::CheckError;
 use crate::part::Part;
@@ -61,9 +61,8 @@ pub(crate) fn insert_among<P: Part>(
 /// The part into which a row goes: the one that holds the row before its place.
 fn holding_before<P: Part>(parts: &[P], place: u32) -> Held
     requires some { 0 < length parts.now }
-    requires few { length (flat_map P.rows parts.now) ≤ most_rows }
     requires within { place ≤ length (flat_map P.rows parts.now) }
-    ensures { HoldsBefore P.rows parts.now place result }
+    ensures { Holds P.rows parts.now 0 place result }
 {
     if place == 0 {
         Held {

@@ -4,7 +4,7 @@ ghost use Rattle.std.specs.Prelude.{◌≡◌, ◌+◌, ◌≤◌, [], ◌∷◌
 ghost use Rattle.retro_base.specs.Limits.{most_rows};
 ghost use Rattle.evidence_check.specs.Sums.{AreBounded, joined, lesser, sums_of};
 
-use crate::better::{earlier_of, later_of};
+use crate::better::{Sought, better_of};
 use crate::weighed_row::WeighedRow;
 use retro_base::Entry;
 
@@ -62,8 +62,8 @@ impl Sums {
             rows: self.rows + other.rows,
             sum: self.sum + other.sum,
             low: lesser(self.low, self.sum + other.low),
-            dead: later_of(self.dead, other.dead),
-            alive: earlier_of(self.alive, other.alive),
+            dead: better_of(Sought::Dead, self.dead, other.dead),
+            alive: better_of(Sought::Alive, self.alive, other.alive),
         }
     }
 }

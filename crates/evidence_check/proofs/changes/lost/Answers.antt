@@ -9,11 +9,11 @@ use Rattle.evidence_check.proofs.changes.lost.Goals as goal
 pub returns : goal.returns
 returns g c =
     ap (option_map (λ entry. Lose (Some c.first_bridge-bridge.result) entry))
-    (sym c.in_ok-entry.was ∙ c.alive_to.ensures ∙ least_is c.args.rows.now c.requires.kept c.first_bridge-bridge.result)
+    (sym c.in_ok-entry.was ∙ c.best.ensures ∙ least_is c.args.rows.now c.requires.kept c.first_bridge-bridge.result)
     ∙ ap (lost (rows_of c.args.rows.now)) c.first_bridge-bridge.ensures.bridge
 
 pub returns-in_err-entry : goal.returns-in_err-entry
 returns-in_err-entry g c =
     c.from_residual.ensures ∙ ap (option_map (λ entry. Lose (Some c.first_bridge-bridge.result) entry))
-    (sym c.in_err-entry.was ∙ c.alive_to.ensures ∙ least_is c.args.rows.now c.requires.kept c.first_bridge-bridge.result)
+    (sym c.in_err-entry.was ∙ c.best.ensures ∙ least_is c.args.rows.now c.requires.kept c.first_bridge-bridge.result)
     ∙ ap (lost (rows_of c.args.rows.now)) c.first_bridge-bridge.ensures.bridge

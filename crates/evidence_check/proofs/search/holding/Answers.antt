@@ -1,10 +1,6 @@
 use Rattle.std.proofs.Common.{ap, arith}
-use Rattle.retro_base.specs.Limits.{most_rows}
-use Rattle.evidence_check.proofs.Walks.{small, there}
+use Rattle.evidence_check.proofs.Walks.{there}
 use Rattle.evidence_check.proofs.search.holding.Goals as goal
-
-pub sums-rows-requires : goal.sums-rows-requires
-sums-rows-requires g c = small g.P.Part.rows c.args.parts.now c.loop-index.index c.index-parts-index.result c.loop-index-test.true c.index-parts-index.is most_rows c.requires.few
 
 pub returns-then-place-before : goal.returns-then-place-before
 returns-then-place-before g c = record {

@@ -2,11 +2,8 @@ use Rattle.std.proofs.Common.{◌≤◌, length, ap, ◌∙◌, arith}
 use Rattle.std.specs.List.{flat_map}
 use Rattle.retro_base.specs.Limits.{most_rows}
 use Rattle.evidence_check.proofs.SumsJoined.{sums-bounded}
-use Rattle.evidence_check.proofs.Walks.{fits, small, sums_next}
+use Rattle.evidence_check.proofs.Walks.{fits, sums_next}
 use Rattle.evidence_check.proofs.search.sums_among.Goals as goal
-
-pub sums-requires : goal.sums-requires
-sums-requires g c = small g.P.Part.rows c.args.parts.now c.loop-part.part-index c.part-item.result c.loop-part-test.true c.part-item.is most_rows c.requires
 
 pub join-sums-requires-clause-bounded : goal.join-sums-requires-clause-bounded
 join-sums-requires-clause-bounded g c = rw c.loop-part.invariant (sums-bounded _)

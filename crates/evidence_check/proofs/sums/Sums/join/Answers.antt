@@ -20,4 +20,4 @@ returns c =
     (omega (arith, ints, c.requires.few, c.requires.bounded.down, c.requires.other.low_down)) in
     same_sums _ _ _ _ _ _ _ _ _ _ refl (stored_both a.sum b.sum first second both)
     (stored_lesser c.lesser.result a.low a.sum b.low low_first first low low_both c.lesser.ensures)
-    c.later_of.ensures c.earlier_of.ensures
+    c.better_of.ensures c.better_of-2.ensures

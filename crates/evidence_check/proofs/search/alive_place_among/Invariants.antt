@@ -1,9 +1,0 @@
-use Rattle.std.proofs.Common.{◌≡◌, length, take, false}
-use Rattle.std.specs.List.{flat_map}
-use Rattle.evidence_check.specs.Marks.{least_alive}
-use Rattle.evidence_check.specs.Parts.{is_entry}
-use Rattle.evidence_check.proofs.search.alive_place_among.Given as goal
-
-abbrev pub invariant-loop-part : goal.invariant-loop-part
-invariant-loop-part g l =
-    let first = flat_map g.P.Part.rows (take l.part-index l.parts) in (l.passed ≡ length first) × (is_entry (least_alive (take l.to first)) l.entry ≡ false)
