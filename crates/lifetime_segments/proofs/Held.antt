@@ -47,6 +47,11 @@ replaced_at {before = before} order x y xs place next ordered there here beside 
     ∙ replaced order x y xs ordered there (omega (arith, here, beside)) (omega (arith, here, beside))
     ∙ sym (without-beside order x y xs ordered there)
 
+-- a lifetime that was put in is taken back
+pub taken_back : {A : Type 0} {before : A → A → Bool} (order : IsOrder before) (life : Lifetime A) (held more after : List (Lifetime A)) → more ≡ put_in (stands_earlier before) life held
+    → after ≡ without (stands_earlier before) life more → after ≡ held
+taken_back {before = before} order life held more after is_more is_after = is_after ∙ ap (without (stands_earlier before) life) is_more ∙ without-put_in (earlier_order order) life held
+
 module _ {A : Type 0} {before : A → A → Bool} (order : IsOrder before) {M : Type 0} where
   pub held_with : (life : Lifetime A) (held : List (Lifetime A)) (root after : Trie A M) → IsInRange life → length held < most_items → AreHeld before held root → Adds before 40 life root after
       → AreHeld before (put_in (stands_earlier before) life held) after
@@ -56,6 +61,10 @@ module _ {A : Type 0} {before : A → A → Bool} (order : IsOrder before) {M : 
     few = omega (arith, length-put_in (stands_earlier before) life held);
     is_of = of_put_in order 40 life held after (adds held are.is_of);
   }
+
+  pub held_back : (life : Lifetime A) (held more after : List (Lifetime A)) (root trie : Trie A M) → more ≡ put_in (stands_earlier before) life held → after ≡ without (stands_earlier before) life more
+      → AreHeld before held root → Keeps before 40 root trie → AreHeld before after trie
+  held_back life held more after root trie is_more is_after are keeps = subst (λ held. AreHeld before held trie) (sym (taken_back order life held more after is_more is_after)) (held_kept before held root trie are keeps)
 
   pub held_one : (life : Lifetime A) (held : List (Lifetime A)) (root : Trie A M) → AreHeld before held root → is_in (stands_earlier before) life held ≡ true → HasOne before 40 life root
   held_one life held root are there = record {

@@ -6,8 +6,8 @@ use Rattle.std.proofs.lemmas.Bool.Decides.{nat_tests}
 use Rattle.lifetime_segments.specs.declared.lifetime.Lifetime.{Lifetime}
 use Rattle.lifetime_segments.specs.declared.trie.Trie.{Trie}
 use Rattle.lifetime_segments.specs.declared.trie.Node.{Node}
-use Rattle.lifetime_segments.specs.Ordered.{IsOrder, put_in, in_order}
-use Rattle.lifetime_segments.specs.Tries.{IsOf, IsOfNode, Moves, NodeAdds, NodeTakes, NodeMoves, MovesFirst, TakesSecond, AddsSecond, TakesFirst}
+use Rattle.lifetime_segments.specs.Ordered.{IsOrder, in_order}
+use Rattle.lifetime_segments.specs.Tries.{IsOf, IsOfNode, Moves, NodeAdds, NodeTakes, NodeMoves, MovesFirst, TakesSecond, AddsSecond}
 use Rattle.lifetime_segments.specs.Tries.{HasOne, SecondHasOne, is_whole, in_first, in_second, seen_from, ending}
 use Rattle.lifetime_segments.proofs.Moved.{node_swapped, of_past}
 use Rattle.lifetime_segments.proofs.Nodes.{wholes-broken, wholes-whole, first-whole, second-whole}
@@ -114,16 +114,6 @@ node_still_whole before (suc level) next life node whole next_whole lives is_of 
   is_of.0 ∙ ap (in_order before) (wholes-whole (suc level) life lives whole ∙ sym (wholes-whole (suc level) (ending next life) lives next_whole)),
   subst (λ ls. IsOf before level ls node.left) (first-whole level life lives whole ∙ sym (first-whole level (ending next life) lives next_whole)) is_of.1,
   subst (λ ls. IsOf before level ls node.right) (second-whole level life lives whole ∙ sym (second-whole level (ending next life) lives next_whole)) is_of.2,
-)
-
--- whole in the span with its new end, it is put in and taken out of the halves
-pub node_made_whole : {A M : Type 0} (before : A → A → Bool) (level next : ℕ) (life : Lifetime A) (node after : Node A M) → is_whole (suc level) life ≡ false → is_whole (suc level) (ending next life) ≡ true
-    → after.items ≡ put_in before life.item node.items → TakesFirst before level life node.left after.left → TakesSecond before level life node.right after.right → NodeMoves before (suc level) life next node after
-unfolding IsOfNode
-node_made_whole before level next life node after broken whole items left right lives is_of = (
-  items ∙ ap (put_in before life.item) (is_of.0 ∙ ap (in_order before) (wholes-broken (suc level) life lives broken)) ∙ sym (ap (in_order before) (wholes-whole (suc level) (ending next life) lives whole)),
-  subst (λ ls. IsOf before level ls after.left) (sym (first-whole level (ending next life) lives whole)) (left lives is_of.1),
-  subst (λ ls. IsOf before level ls after.right) (sym (second-whole level (ending next life) lives whole)) (right lives is_of.2),
 )
 
 -- the lifetime with its new end is added, and then the one with the old end taken

@@ -45,6 +45,11 @@ some_of before level lives (Few few) node leads is_of = absurd leads
 some_of before zero lives (Full' p items left right) node leads is_of = is_of.0
 some_of before (suc level) lives (Full' p items left right) node leads is_of = is_of.0
 
+-- what is made of the node that a trie leads to is made of the trie
+pub through_node : {A M : Type 0} (before : A → A → Bool) (level : ℕ) (old new : List (Lifetime A)) (trie after : Trie A M) (node changed : Node A M) → LeadsTo trie node → LeadsTo after changed → AreSome level new
+    → (IsOfNode before level old node → IsOfNode before level new changed) → IsOf before level old trie → IsOf before level new after
+through_node before level old new trie after node changed leads leads_after some changes is_of = trie_of before level new after changed leads_after some (changes (node_of before level old trie node leads is_of))
+
 -- a lifetime that lies in a span is one
 pub some_with : {A : Type 0} (level : ℕ) (life : Lifetime A) (lives : List (Lifetime A)) → life.from < life.to → life.from < 2 ^ level → AreSome level (life ∷ lives)
 some_with level life lives rises begins =

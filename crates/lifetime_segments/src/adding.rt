@@ -80,7 +80,7 @@ fn divided<O: Order>(
 }
 
 #[cycle(add)]
-fn add_to_node<O: Order>(
+pub(crate) fn add_to_node<O: Order>(
     node: &mut Node<O::Item>,
     level: u32,
     life: Lifetime<O::Item>,
@@ -102,7 +102,7 @@ fn add_to_node<O: Order>(
 
 /// After out of memory on the second side, the first has the lifetimes that it had.
 #[cycle(add)]
-pub(crate) fn add_to_halves<O: Order>(
+fn add_to_halves<O: Order>(
     node: &mut Node<O::Item>,
     level: u32,
     life: Lifetime<O::Item>,
@@ -117,11 +117,11 @@ pub(crate) fn add_to_halves<O: Order>(
     ensures err { OnErr result (NodeKeeps O.stands_before (suc level) node.old node.new) }
 {
     add_first::<O>(&mut node.left, level, life, alloc)?;
-    let added = add_second::<O>(&mut node.right, level, life, alloc);
-    if added.is_err() {
+    if let Err(error) = add_second::<O>(&mut node.right, level, life, alloc) {
         take_first::<O>(&mut node.left, level, life);
+        return Err(error);
     }
-    added
+    Ok(())
 }
 
 #[cycle(add)]

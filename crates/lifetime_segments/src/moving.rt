@@ -1,12 +1,12 @@
 //! Moving the end of a lifetime.
-ghost use Rattle.std.specs.Prelude.{◌≡◌, ◌<◌, ◌≤◌, ◌^◌, true, false, suc, OnOk, OnErr};
+ghost use Rattle.std.specs.Prelude.{◌≡◌, ◌<◌, ◌≤◌, ◌^◌, false, suc, OnOk, OnErr};
 ghost use Rattle.lifetime_segments.specs.Tries.{Has, NodeHas, HasOne, NodeHasOne, FirstHasOne, Keeps, NodeKeeps, Moves, NodeMoves, MovesFirst, ending, is_whole};
 
-use crate::adding::{add_second, add_to_halves};
+use crate::adding::{add_second, add_to_node};
 use crate::life_list::exchange_lives;
 use crate::lifetime::{Lifetime, labels};
-use crate::sorted::{Order, put, take_out};
-use crate::taking::{take_first, take_second};
+use crate::sorted::Order;
+use crate::taking::{take_from_node, take_second};
 use crate::trie::{Node, Trie};
 use retro_base::NoMemory;
 use std::alloc::Global;
@@ -59,56 +59,33 @@ fn move_in_node<O: Order>(
         if life.ending(next).is_whole(level) {
             return Ok(());
         }
-        return break_up::<O>(node, level - 1, life, next, alloc);
+        return exchange_ends::<O>(node, level, life, next, alloc);
     }
     if life.ending(next).is_whole(level) {
-        return make_whole::<O>(node, level - 1, life, next);
+        return exchange_ends::<O>(node, level, life, next, alloc);
     }
     move_in_halves::<O>(node, level - 1, life, next, alloc)
 }
 
-/// A lifetime that held a whole span ends in it: its item goes from the node into the halves.
-fn break_up<O: Order>(
+/// Where a lifetime holds the whole span with one of its ends alone, it is put in with the new one and taken out with the former.
+fn exchange_ends<O: Order>(
     node: &mut Node<O::Item>,
     level: u32,
     life: Lifetime<O::Item>,
     next: u64,
     alloc: Global,
 ) -> Result<(), NoMemory>
-    requires level { level < 40 }
-    requires next { life.from < next }
-    requires whole { is_whole (suc level) life ≡ true }
-    requires broken { is_whole (suc level) (ending next life) ≡ false }
-    requires has { NodeHas O.stands_before (suc level) node.old }
-    requires there { NodeHasOne O.stands_before (suc level) life node.old }
-    ensures ok { OnOk result (NodeMoves O.stands_before (suc level) life next node.old node.new) }
-    ensures err { OnErr result (NodeKeeps O.stands_before (suc level) node.old node.new) }
-{
-    add_to_halves::<O>(node, level, life.ending(next), alloc)?;
-    take_out::<O>(&mut node.items, life.item);
-    Ok(())
-}
-
-/// A lifetime that ended in a span holds it whole: its item goes from the halves into the node.
-fn make_whole<O: Order>(
-    node: &mut Node<O::Item>,
-    level: u32,
-    life: Lifetime<O::Item>,
-    next: u64,
-) -> Result<(), NoMemory>
-    requires level { level < 40 }
-    requires begins { life.from < 2 ^ suc level }
+    requires level { level ≤ 40 }
+    requires begins { life.from < 2 ^ level }
     requires rises { life.from < life.to }
-    requires broken { is_whole (suc level) life ≡ false }
-    requires whole { is_whole (suc level) (ending next life) ≡ true }
-    requires has { NodeHas O.stands_before (suc level) node.old }
-    requires there { NodeHasOne O.stands_before (suc level) life node.old }
-    ensures ok { OnOk result (NodeMoves O.stands_before (suc level) life next node.old node.new) }
-    ensures err { OnErr result (NodeKeeps O.stands_before (suc level) node.old node.new) }
+    requires next { life.from < next }
+    requires has { NodeHas O.stands_before level node.old }
+    requires there { NodeHasOne O.stands_before level life node.old }
+    ensures ok { OnOk result (NodeMoves O.stands_before level life next node.old node.new) }
+    ensures err { OnErr result (NodeKeeps O.stands_before level node.old node.new) }
 {
-    put::<O>(&mut node.items, life.item)?;
-    take_first::<O>(&mut node.left, level, life);
-    take_second::<O>(&mut node.right, level, life);
+    add_to_node::<O>(node, level, life.ending(next), alloc)?;
+    take_from_node::<O>(node, level, life);
     Ok(())
 }
 
@@ -169,11 +146,11 @@ fn lengthen<O: Order>(
 {
     let longer = life.ending(next);
     add_second::<O>(&mut node.right, level, longer, alloc)?;
-    let moved = move_first::<O>(&mut node.left, level, life, next, alloc);
-    if moved.is_err() {
+    if let Err(error) = move_first::<O>(&mut node.left, level, life, next, alloc) {
         take_second::<O>(&mut node.right, level, longer);
+        return Err(error);
     }
-    moved
+    Ok(())
 }
 
 /// Where both ends lie past the first half, it is left as it is.

@@ -130,11 +130,11 @@ fn add_held<O: Order>(
     ensures err { OnErr result (held.new ≡ held.old) }
 {
     put::<ByStart<O>>(held, life)?;
-    let added = add::<O>(root, LEVELS, life, held.alloc());
-    if added.is_err() {
+    if let Err(error) = add::<O>(root, LEVELS, life, held.alloc()) {
         take_out::<ByStart<O>>(held, life);
+        return Err(error);
     }
-    added
+    Ok(())
 }
 
 fn take_held<O: Order>(
@@ -198,8 +198,10 @@ fn move_away<O: Order>(
 {
     let moved = life.ending(next);
     put::<ByStart<O>>(held, moved)?;
-    let done = move_end::<O>(root, LEVELS, life, next, held.alloc());
-    let gone = if done.is_err() { moved } else { life };
-    take_out::<ByStart<O>>(held, gone);
-    done
+    if let Err(error) = move_end::<O>(root, LEVELS, life, next, held.alloc()) {
+        take_out::<ByStart<O>>(held, moved);
+        return Err(error);
+    }
+    take_out::<ByStart<O>>(held, life);
+    Ok(())
 }

@@ -29,7 +29,11 @@ pub(crate) fn take<O: Order>(trie: &mut Trie<O::Item>, level: u32, life: Lifetim
 }
 
 #[cycle(take)]
-fn take_from_node<O: Order>(node: &mut Node<O::Item>, level: u32, life: Lifetime<O::Item>)
+pub(crate) fn take_from_node<O: Order>(
+    node: &mut Node<O::Item>,
+    level: u32,
+    life: Lifetime<O::Item>,
+)
     requires level { level ≤ 40 }
     requires begins { life.from < 2 ^ level }
     requires rises { life.from < life.to }

@@ -5,37 +5,28 @@ use Rattle.retro_base.specs.OrderLaws.{all_at}
 use Rattle.lifetime_segments.specs.Lawful.{most_items}
 use Rattle.lifetime_segments.specs.Lifetimes.{stands_by_item}
 use Rattle.lifetime_segments.specs.Ordered.{put_in}
-use Rattle.lifetime_segments.specs.Tries.{LeadsTo, IsOf, IsOfNode, Touches, NodeAdds, NodeKeeps, Has, NodeHas, is_whole, in_first, in_second}
+use Rattle.lifetime_segments.specs.Tries.{IsOf, IsOfNode, Touches, NodeAdds, NodeKeeps, Has, NodeHas, is_whole, in_first, in_second}
 use Rattle.lifetime_segments.proofs.Results.{ok_weaker, err_weaker, err_always}
-use Rattle.lifetime_segments.proofs.Nodes.{bare_of, node_of, trie_of, some_of, some_with, node_has, left_has, right_has, node_left, node_ordered, node_few, node_with_whole, node_with_parts, node_kept, below_level}
+use Rattle.lifetime_segments.proofs.Nodes.{leads_by, through_node, bare_of, trie_of, some_of, some_with, node_has, left_has, right_has, node_left, node_ordered, node_few, node_with_whole, node_with_parts, node_kept, below_level}
 use Rattle.lifetime_segments.proofs.FewLives.{few_of, of_few, few_ordered, few_with, few_touch, few_length, drop_get}
 use Rattle.lifetime_segments.proofs.Moved.{few_alike, node_of_alike}
 use Rattle.lifetime_segments.proofs.adding.+add.Goals as goal
 
 pub add-add_to_node-requires : goal.add-add_to_node-requires
 add-add_to_node-requires g t c κs within =
-    let leads : LeadsTo c.args.trie.now c.in-Full.node.value = subst (λ trie. LeadsTo trie c.in-Full.node.value) (sym c.in-Full.is) (refl, refl, refl) in
-    let has : NodeHas g.O.Order.stands_before c.args.level c.deref_mut.result.now = subst (NodeHas g.O.Order.stands_before c.args.level) (sym c.deref_mut.ensures.value) (node_has leads c.requires.has) in
+    let has : NodeHas g.O.Order.stands_before c.args.level c.deref_mut.result.now = node_has (leads_by c.in-Full.is c.deref_mut.ensures.value (refl, refl, refl)) c.requires.has in
     search rules
 
 pub add-returns-in-Full-clause-ok : goal.add-returns-in-Full-clause-ok
 add-returns-in-Full-clause-ok g t c =
-    let before = g.O.Order.stands_before in
-    let leads : LeadsTo c.args.trie.now c.in-Full.node.value = subst (λ trie. LeadsTo trie c.in-Full.node.value) (sym c.in-Full.is) (refl, refl, refl) in
     ok_weaker c.add_to_node.result
-    (λ adds lives is_of.
-    trie_of before c.args.level (c.args.life ∷ lives) _ c.add_to_node.new.node (refl, refl, refl) (some_with c.args.level c.args.life lives c.requires.rises c.requires.begins)
-    (adds lives (subst (IsOfNode before c.args.level lives) (sym c.deref_mut.ensures.value) (node_of before c.args.level lives c.args.trie.now c.in-Full.node.value leads is_of))))
+    (λ adds lives is_of. through_node g.O.Order.stands_before c.args.level lives (c.args.life ∷ lives) c.args.trie.now _ c.deref_mut.result.now c.add_to_node.new.node (leads_by c.in-Full.is c.deref_mut.ensures.value (refl, refl, refl)) (refl, refl, refl) (some_with c.args.level c.args.life lives c.requires.rises c.requires.begins) (adds lives) is_of)
     c.add_to_node.ensures.ok
 
 pub add-returns-in-Full-clause-err : goal.add-returns-in-Full-clause-err
 add-returns-in-Full-clause-err g t c =
-    let before = g.O.Order.stands_before in
-    let leads : LeadsTo c.args.trie.now c.in-Full.node.value = subst (λ trie. LeadsTo trie c.in-Full.node.value) (sym c.in-Full.is) (refl, refl, refl) in
     err_weaker c.add_to_node.result
-    (λ keeps lives is_of.
-    trie_of before c.args.level lives _ c.add_to_node.new.node (refl, refl, refl) (some_of before c.args.level lives c.args.trie.now c.in-Full.node.value leads is_of)
-    (keeps lives (subst (IsOfNode before c.args.level lives) (sym c.deref_mut.ensures.value) (node_of before c.args.level lives c.args.trie.now c.in-Full.node.value leads is_of))))
+    (λ keeps lives is_of. through_node g.O.Order.stands_before c.args.level lives lives c.args.trie.now _ c.deref_mut.result.now c.add_to_node.new.node (leads_by c.in-Full.is c.deref_mut.ensures.value (refl, refl, refl)) (refl, refl, refl) (some_of g.O.Order.stands_before c.args.level lives c.args.trie.now c.deref_mut.result.now (leads_by c.in-Full.is c.deref_mut.ensures.value (refl, refl, refl)) is_of) (keeps lives) is_of)
     c.add_to_node.ensures.err
 
 pub add_to_halves-add_first-requires : goal.add_to_halves-add_first-requires
@@ -48,8 +39,8 @@ add_to_halves-returns-in_err-add_first-clause-err g t c =
     err_always c.from_residual.result
     (node_kept g.O.Order.stands_before c.args.level c.args.node.now _ refl (λ lives. c.in_err-add_first.ensures.err (in_first c.args.level lives)) (λ lives kept. kept))
 
-pub add_to_halves-add_second-added-requires : goal.add_to_halves-add_second-added-requires
-add_to_halves-add_second-added-requires g t c κs within =
+pub add_to_halves-add_second-requires : goal.add_to_halves-add_second-requires
+add_to_halves-add_second-requires g t c κs within =
     let has : Has g.O.Order.stands_before c.args.level c.args.node.now.right = right_has c.requires.has in
     search rules
 
@@ -59,18 +50,12 @@ add_to_halves-take_first-requires-clause-has g t c = record {
   is_of = c.in_ok-add_first.ensures.ok c.requires.has.lives (node_left g.O.Order.stands_before c.args.level c.requires.has.lives c.args.node.now c.requires.has.is_of);
 }
 
-pub add_to_halves-returns-then-is_err-clause-err : goal.add_to_halves-returns-then-is_err-clause-err
-add_to_halves-returns-then-is_err-clause-err g t c =
-    err_weaker c.add_second-added.result
-    (λ keeps. node_kept g.O.Order.stands_before c.args.level c.args.node.now _ refl
-    (λ lives is_of. c.take_first.ensures lives (c.in_ok-add_first.ensures.ok lives is_of)) (λ lives. keeps (in_second c.args.level lives)))
-    c.add_second-added.ensures.err
+pub add_to_halves-returns-in-Err-clause-err : goal.add_to_halves-returns-in-Err-clause-err
+add_to_halves-returns-in-Err-clause-err g t c =
+    node_kept g.O.Order.stands_before c.args.level c.args.node.now _ refl (λ lives is_of. c.take_first.ensures lives (c.in_ok-add_first.ensures.ok lives is_of)) (λ lives. c.in-Err.ensures.err (in_second c.args.level lives))
 
-pub add_to_halves-returns-else-is_err-clause-ok : goal.add_to_halves-returns-else-is_err-clause-ok
-add_to_halves-returns-else-is_err-clause-ok g t c =
-    ok_weaker c.add_second-added.result
-    (λ adds. node_with_parts g.O.Order.stands_before c.args.level c.args.life c.args.node.now _ c.requires.broken refl c.in_ok-add_first.ensures.ok adds)
-    c.add_second-added.ensures.ok
+pub add_to_halves-returns-clause-ok : goal.add_to_halves-returns-clause-ok
+add_to_halves-returns-clause-ok g t c = node_with_parts g.O.Order.stands_before c.args.level c.args.life c.args.node.now _ c.requires.broken refl c.in_ok-add_first.ensures.ok c.in_default.ensures.ok
 
 pub add_to_node-put-requires-clause-ordered : goal.add_to_node-put-requires-clause-ordered
 add_to_node-put-requires-clause-ordered g t c = node_ordered g.met.O.Order.order c.args.level c.requires.has.lives c.args.node.now c.requires.has.is_of

@@ -1,9 +1,9 @@
-use Rattle.std.proofs.Common.{◌≡◌, ◌<◌, ◌-◌, ◌^◌, suc, true, false, ◌∷◌, refl, sym, subst, ap, ◌∙◌, arith, rules}
+use Rattle.std.proofs.Common.{◌≡◌, ◌<◌, ◌-◌, ◌^◌, suc, false, ◌∷◌, refl, sym, subst, ap, ◌∙◌, arith, rules}
 use Rattle.lifetime_segments.specs.Lifetimes.{stands_by_item}
 use Rattle.lifetime_segments.specs.Ordered.{is_in, put_in, without}
-use Rattle.lifetime_segments.specs.Tries.{LeadsTo, IsOfNode, NodeMoves, NodeKeeps, Moves, AddsSecond, Has, NodeHas, HasOne, NodeHasOne, FirstHasOne, is_whole, clipped, ending, in_first, in_second, seen_from}
+use Rattle.lifetime_segments.specs.Tries.{NodeMoves, NodeKeeps, Moves, AddsSecond, Has, NodeHas, HasOne, NodeHasOne, FirstHasOne, is_whole, clipped, ending, in_first, in_second, seen_from}
 use Rattle.lifetime_segments.proofs.Results.{ok_weaker, err_weaker, err_always}
-use Rattle.lifetime_segments.proofs.Nodes.{node_of, trie_of, some_of, some_with, node_has, node_has_one, left_has, right_has, left_has_one, right_has_one, node_right, node_kept, below_level}
+use Rattle.lifetime_segments.proofs.Nodes.{leads_by, through_node, some_of, some_with, node_has, node_has_one, left_has, right_has, left_has_one, right_has_one, node_right, node_kept, below_level}
 use Rattle.lifetime_segments.proofs.MovedEnds.{first_past, second_there, node_second_moved, node_shortened, node_lengthened, node_still_whole}
 use Rattle.lifetime_segments.proofs.Spans.{double}
 use Rattle.lifetime_segments.proofs.FewLives.{few_of, of_few, few_ordered, few_there, few_moved}
@@ -11,31 +11,20 @@ use Rattle.lifetime_segments.proofs.moving.+move_end.Goals as goal
 
 pub move_end-move_in_node-requires : goal.move_end-move_in_node-requires
 move_end-move_in_node-requires g t c κs within =
-    let before = g.O.Order.stands_before in
-    let leads : LeadsTo c.args.trie.now c.in-Full.node.value = subst (λ trie. LeadsTo trie c.in-Full.node.value) (sym c.in-Full.is) (refl, refl, refl) in
-    let has : NodeHas before c.args.level c.deref_mut.result.now = subst (NodeHas before c.args.level) (sym c.deref_mut.ensures.value) (node_has leads c.requires.has) in
-    let there : NodeHasOne before c.args.level c.args.life c.deref_mut.result.now = subst (NodeHasOne before c.args.level c.args.life) (sym c.deref_mut.ensures.value) (node_has_one leads c.requires.there) in
+    let has : NodeHas g.O.Order.stands_before c.args.level c.deref_mut.result.now = node_has (leads_by c.in-Full.is c.deref_mut.ensures.value (refl, refl, refl)) c.requires.has in
+    let there : NodeHasOne g.O.Order.stands_before c.args.level c.args.life c.deref_mut.result.now = node_has_one (leads_by c.in-Full.is c.deref_mut.ensures.value (refl, refl, refl)) c.requires.there in
     search rules
 
 pub move_end-returns-in-Full-clause-ok : goal.move_end-returns-in-Full-clause-ok
 move_end-returns-in-Full-clause-ok g t c =
-    let before = g.O.Order.stands_before in
-    let leads : LeadsTo c.args.trie.now c.in-Full.node.value = subst (λ trie. LeadsTo trie c.in-Full.node.value) (sym c.in-Full.is) (refl, refl, refl) in
     ok_weaker c.move_in_node.result
-    (λ moves lives is_of.
-    trie_of before c.args.level (ending c.args.next c.args.life ∷ lives) _ c.move_in_node.new.node (refl, refl, refl)
-    (some_with c.args.level (ending c.args.next c.args.life) lives c.requires.next c.requires.begins)
-    (moves lives (subst (IsOfNode before c.args.level (c.args.life ∷ lives)) (sym c.deref_mut.ensures.value) (node_of before c.args.level (c.args.life ∷ lives) c.args.trie.now c.in-Full.node.value leads is_of))))
+    (λ moves lives is_of. through_node g.O.Order.stands_before c.args.level (c.args.life ∷ lives) (ending c.args.next c.args.life ∷ lives) c.args.trie.now _ c.deref_mut.result.now c.move_in_node.new.node (leads_by c.in-Full.is c.deref_mut.ensures.value (refl, refl, refl)) (refl, refl, refl) (some_with c.args.level (ending c.args.next c.args.life) lives c.requires.next c.requires.begins) (moves lives) is_of)
     c.move_in_node.ensures.ok
 
 pub move_end-returns-in-Full-clause-err : goal.move_end-returns-in-Full-clause-err
 move_end-returns-in-Full-clause-err g t c =
-    let before = g.O.Order.stands_before in
-    let leads : LeadsTo c.args.trie.now c.in-Full.node.value = subst (λ trie. LeadsTo trie c.in-Full.node.value) (sym c.in-Full.is) (refl, refl, refl) in
     err_weaker c.move_in_node.result
-    (λ keeps lives is_of.
-    trie_of before c.args.level lives _ c.move_in_node.new.node (refl, refl, refl) (some_of before c.args.level lives c.args.trie.now c.in-Full.node.value leads is_of)
-    (keeps lives (subst (IsOfNode before c.args.level lives) (sym c.deref_mut.ensures.value) (node_of before c.args.level lives c.args.trie.now c.in-Full.node.value leads is_of))))
+    (λ keeps lives is_of. through_node g.O.Order.stands_before c.args.level lives lives c.args.trie.now _ c.deref_mut.result.now c.move_in_node.new.node (leads_by c.in-Full.is c.deref_mut.ensures.value (refl, refl, refl)) (refl, refl, refl) (some_of g.O.Order.stands_before c.args.level lives c.args.trie.now c.deref_mut.result.now (leads_by c.in-Full.is c.deref_mut.ensures.value (refl, refl, refl)) is_of) (keeps lives) is_of)
     c.move_in_node.ensures.err
 
 pub move_end-exchange_lives-requires-clause-ordered : goal.move_end-exchange_lives-requires-clause-ordered
@@ -70,61 +59,6 @@ move_in_node-returns-then-is_whole-2-clause-ok g t c =
     node_still_whole g.O.Order.stands_before c.args.level c.args.next c.args.life c.args.node.now (sym c.is_whole.ensures ∙ c.if-is_whole.true)
     (sym (c.is_whole-then-is_whole.ensures ∙ ap (is_whole c.args.level) c.ending.ensures) ∙ c.if-is_whole-2.true)
 
-pub move_in_node-break_up-requires-clause-whole : goal.move_in_node-break_up-requires-clause-whole
-move_in_node-break_up-requires-clause-whole g t c =
-    let below : c.args.level ≡ suc (c.args.level - 1) = below_level c.args.level (ending c.args.next c.args.life)
-    (sym (c.is_whole-then-is_whole.ensures ∙ ap (is_whole c.args.level) c.ending.ensures) ∙ c.if-is_whole-2.false) c.requires.begins (omega (arith, c.requires.next)) in
-    subst (λ n. is_whole n c.args.life ≡ true) below (sym c.is_whole.ensures ∙ c.if-is_whole.true)
-
-pub move_in_node-break_up-requires-clause-has : goal.move_in_node-break_up-requires-clause-has
-move_in_node-break_up-requires-clause-has g t c =
-    let below : c.args.level ≡ suc (c.args.level - 1) = below_level c.args.level (ending c.args.next c.args.life)
-    (sym (c.is_whole-then-is_whole.ensures ∙ ap (is_whole c.args.level) c.ending.ensures) ∙ c.if-is_whole-2.false) c.requires.begins (omega (arith, c.requires.next)) in
-    subst (λ n. NodeHas g.O.Order.stands_before n c.args.node.now) below c.requires.has
-
-pub move_in_node-break_up-requires-clause-there : goal.move_in_node-break_up-requires-clause-there
-move_in_node-break_up-requires-clause-there g t c =
-    let below : c.args.level ≡ suc (c.args.level - 1) = below_level c.args.level (ending c.args.next c.args.life)
-    (sym (c.is_whole-then-is_whole.ensures ∙ ap (is_whole c.args.level) c.ending.ensures) ∙ c.if-is_whole-2.false) c.requires.begins (omega (arith, c.requires.next)) in
-    subst (λ n. NodeHasOne g.O.Order.stands_before n c.args.life c.args.node.now) below c.requires.there
-
-pub move_in_node-returns-then-is_whole-clause-ok : goal.move_in_node-returns-then-is_whole-clause-ok
-move_in_node-returns-then-is_whole-clause-ok g t c =
-    let below : c.args.level ≡ suc (c.args.level - 1) = below_level c.args.level (ending c.args.next c.args.life)
-    (sym (c.is_whole-then-is_whole.ensures ∙ ap (is_whole c.args.level) c.ending.ensures) ∙ c.if-is_whole-2.false) c.requires.begins (omega (arith, c.requires.next)) in
-    ok_weaker c.break_up.result (λ moves. subst (λ n. NodeMoves g.O.Order.stands_before n c.args.life c.args.next c.args.node.now c.break_up.new.node) (sym below) moves) c.break_up.ensures.ok
-
-pub move_in_node-returns-then-is_whole-clause-err : goal.move_in_node-returns-then-is_whole-clause-err
-move_in_node-returns-then-is_whole-clause-err g t c =
-    let below : c.args.level ≡ suc (c.args.level - 1) = below_level c.args.level (ending c.args.next c.args.life)
-    (sym (c.is_whole-then-is_whole.ensures ∙ ap (is_whole c.args.level) c.ending.ensures) ∙ c.if-is_whole-2.false) c.requires.begins (omega (arith, c.requires.next)) in
-    err_weaker c.break_up.result (λ keeps. subst (λ n. NodeKeeps g.O.Order.stands_before n c.args.node.now c.break_up.new.node) (sym below) keeps) c.break_up.ensures.err
-
-pub move_in_node-make_whole-requires-clause-whole : goal.move_in_node-make_whole-requires-clause-whole
-move_in_node-make_whole-requires-clause-whole g t c =
-    let below : c.args.level ≡ suc (c.args.level - 1) = below_level c.args.level c.args.life (sym c.is_whole.ensures ∙ c.if-is_whole.false) c.requires.begins (omega (arith, c.requires.rises)) in
-    subst (λ n. is_whole n (ending c.args.next c.args.life) ≡ true) below (sym (c.is_whole-2.ensures ∙ ap (is_whole c.args.level) c.ending-2.ensures) ∙ c.if-is_whole-3.true)
-
-pub move_in_node-make_whole-requires-clause-has : goal.move_in_node-make_whole-requires-clause-has
-move_in_node-make_whole-requires-clause-has g t c =
-    let below : c.args.level ≡ suc (c.args.level - 1) = below_level c.args.level c.args.life (sym c.is_whole.ensures ∙ c.if-is_whole.false) c.requires.begins (omega (arith, c.requires.rises)) in
-    subst (λ n. NodeHas g.O.Order.stands_before n c.args.node.now) below c.requires.has
-
-pub move_in_node-make_whole-requires-clause-there : goal.move_in_node-make_whole-requires-clause-there
-move_in_node-make_whole-requires-clause-there g t c =
-    let below : c.args.level ≡ suc (c.args.level - 1) = below_level c.args.level c.args.life (sym c.is_whole.ensures ∙ c.if-is_whole.false) c.requires.begins (omega (arith, c.requires.rises)) in
-    subst (λ n. NodeHasOne g.O.Order.stands_before n c.args.life c.args.node.now) below c.requires.there
-
-pub move_in_node-returns-then-is_whole-3-clause-ok : goal.move_in_node-returns-then-is_whole-3-clause-ok
-move_in_node-returns-then-is_whole-3-clause-ok g t c =
-    let below : c.args.level ≡ suc (c.args.level - 1) = below_level c.args.level c.args.life (sym c.is_whole.ensures ∙ c.if-is_whole.false) c.requires.begins (omega (arith, c.requires.rises)) in
-    ok_weaker c.make_whole.result (λ moves. subst (λ n. NodeMoves g.O.Order.stands_before n c.args.life c.args.next c.args.node.now c.make_whole.new.node) (sym below) moves) c.make_whole.ensures.ok
-
-pub move_in_node-returns-then-is_whole-3-clause-err : goal.move_in_node-returns-then-is_whole-3-clause-err
-move_in_node-returns-then-is_whole-3-clause-err g t c =
-    let below : c.args.level ≡ suc (c.args.level - 1) = below_level c.args.level c.args.life (sym c.is_whole.ensures ∙ c.if-is_whole.false) c.requires.begins (omega (arith, c.requires.rises)) in
-    err_weaker c.make_whole.result (λ keeps. subst (λ n. NodeKeeps g.O.Order.stands_before n c.args.node.now c.make_whole.new.node) (sym below) keeps) c.make_whole.ensures.err
-
 pub move_in_node-move_in_halves-requires : goal.move_in_node-move_in_halves-requires
 move_in_node-move_in_halves-requires g t c κs within =
     let below : c.args.level ≡ suc (c.args.level - 1) = below_level c.args.level c.args.life (sym c.is_whole.ensures ∙ c.if-is_whole.false) c.requires.begins (omega (arith, c.requires.rises)) in
@@ -139,13 +73,11 @@ move_in_node-move_in_halves-requires g t c κs within =
 
 pub move_in_node-returns-clause-ok : goal.move_in_node-returns-clause-ok
 move_in_node-returns-clause-ok g t c =
-    let below : c.args.level ≡ suc (c.args.level - 1) = below_level c.args.level c.args.life (sym c.is_whole.ensures ∙ c.if-is_whole.false) c.requires.begins (omega (arith, c.requires.rises)) in
-    ok_weaker c.move_in_halves.result (λ moves. subst (λ n. NodeMoves g.O.Order.stands_before n c.args.life c.args.next c.args.node.now c.move_in_halves.new.node) (sym below) moves) c.move_in_halves.ensures.ok
+    ok_weaker c.move_in_halves.result (λ moves. subst (λ n. NodeMoves g.O.Order.stands_before n c.args.life c.args.next c.args.node.now c.move_in_halves.new.node) (sym (below_level c.args.level c.args.life (sym c.is_whole.ensures ∙ c.if-is_whole.false) c.requires.begins (omega (arith, c.requires.rises)))) moves) c.move_in_halves.ensures.ok
 
 pub move_in_node-returns-clause-err : goal.move_in_node-returns-clause-err
 move_in_node-returns-clause-err g t c =
-    let below : c.args.level ≡ suc (c.args.level - 1) = below_level c.args.level c.args.life (sym c.is_whole.ensures ∙ c.if-is_whole.false) c.requires.begins (omega (arith, c.requires.rises)) in
-    err_weaker c.move_in_halves.result (λ keeps. subst (λ n. NodeKeeps g.O.Order.stands_before n c.args.node.now c.move_in_halves.new.node) (sym below) keeps) c.move_in_halves.ensures.err
+    err_weaker c.move_in_halves.result (λ keeps. subst (λ n. NodeKeeps g.O.Order.stands_before n c.args.node.now c.move_in_halves.new.node) (sym (below_level c.args.level c.args.life (sym c.is_whole.ensures ∙ c.if-is_whole.false) c.requires.begins (omega (arith, c.requires.rises)))) keeps) c.move_in_halves.ensures.err
 
 pub move_in_halves-move_first-requires : goal.move_in_halves-move_first-requires
 move_in_halves-move_first-requires g t c κs within =
@@ -202,8 +134,8 @@ lengthen-returns-in_err-add_second-clause-err g t c =
     err_always c.from_residual.result
     (node_kept g.O.Order.stands_before c.args.level c.args.node.now _ refl (λ lives kept. kept) (λ lives. c.in_err-add_second.ensures.err (in_second c.args.level lives)))
 
-pub lengthen-move_first-moved-requires : goal.lengthen-move_first-moved-requires
-lengthen-move_first-moved-requires g t c κs within =
+pub lengthen-move_first-requires : goal.lengthen-move_first-requires
+lengthen-move_first-requires g t c κs within =
     let has : Has g.O.Order.stands_before c.args.level c.args.node.now.left = left_has c.requires.has in
     let there : FirstHasOne g.O.Order.stands_before c.args.level c.args.life c.args.node.now.left = left_has_one c.requires.there in
     search rules
@@ -216,20 +148,14 @@ lengthen-take_second-requires-clause-has g t c =
       is_of = c.in_ok-add_second.ensures.ok all (node_right g.O.Order.stands_before c.args.level all c.args.node.now c.requires.there.is_of);
     }
 
-pub lengthen-returns-then-is_err-clause-err : goal.lengthen-returns-then-is_err-clause-err
-lengthen-returns-then-is_err-clause-err g t c =
-    err_weaker c.move_first-moved.result
-    (λ keeps. node_kept g.O.Order.stands_before c.args.level c.args.node.now _ refl (λ lives. keeps (in_first c.args.level lives))
-    (λ lives is_of. c.take_second.ensures lives (c.in_ok-add_second.ensures.ok lives is_of)))
-    c.move_first-moved.ensures.err
+pub lengthen-returns-in-Err-clause-err : goal.lengthen-returns-in-Err-clause-err
+lengthen-returns-in-Err-clause-err g t c =
+    node_kept g.O.Order.stands_before c.args.level c.args.node.now _ refl (λ lives. c.in-Err.ensures.err (in_first c.args.level lives)) (λ lives is_of. c.take_second.ensures lives (c.in_ok-add_second.ensures.ok lives is_of))
 
-pub lengthen-returns-else-is_err-clause-ok : goal.lengthen-returns-else-is_err-clause-ok
-lengthen-returns-else-is_err-clause-ok g t c =
-    let before = g.O.Order.stands_before in
-    ok_weaker c.move_first-moved.result
-    (λ moves. node_lengthened g.met.O.Order.order c.args.level c.args.next c.args.life c.args.node.now _ c.requires.broken c.requires.broken_next refl c.requires.in_first moves
-    (subst (λ life. AddsSecond before c.args.level life c.args.node.now.right c.add_second.new.right) c.ending-longer.ensures c.in_ok-add_second.ensures.ok))
-    c.move_first-moved.ensures.ok
+pub lengthen-returns-clause-ok : goal.lengthen-returns-clause-ok
+lengthen-returns-clause-ok g t c =
+    node_lengthened g.met.O.Order.order c.args.level c.args.next c.args.life c.args.node.now _ c.requires.broken c.requires.broken_next refl c.requires.in_first c.in_default.ensures.ok
+    (subst (λ life. AddsSecond g.O.Order.stands_before c.args.level life c.args.node.now.right c.add_second.new.right) c.ending-longer.ensures c.in_ok-add_second.ensures.ok)
 
 pub move_first-returns-then-half-next-clause-ok : goal.move_first-returns-then-half-next-clause-ok
 move_first-returns-then-half-next-clause-ok g t c =

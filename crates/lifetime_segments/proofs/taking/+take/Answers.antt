@@ -1,8 +1,8 @@
 use Rattle.std.proofs.Common.{◌≡◌, ◌<◌, ◌-◌, ◌^◌, suc, false, ◌∷◌, refl, sym, subst, ap, ◌∙◌, arith, rules}
 use Rattle.lifetime_segments.specs.Lifetimes.{stands_by_item}
 use Rattle.lifetime_segments.specs.Ordered.{is_in, without}
-use Rattle.lifetime_segments.specs.Tries.{LeadsTo, IsOfNode, IsBare, NodeHasOne, FirstHasOne, SecondHasOne, is_whole}
-use Rattle.lifetime_segments.proofs.Nodes.{node_of, trie_of, some_where, node_has_one, left_has_one, right_has_one, node_ordered, node_is_in, node_without_whole, node_without_parts, bare_nothing, below_level}
+use Rattle.lifetime_segments.specs.Tries.{IsBare, NodeHasOne, FirstHasOne, SecondHasOne, is_whole}
+use Rattle.lifetime_segments.proofs.Nodes.{leads_by, node_of, trie_of, some_where, node_has_one, left_has_one, right_has_one, node_ordered, node_is_in, node_without_whole, node_without_parts, bare_nothing, below_level}
 use Rattle.std.proofs.lemmas.Bool.Decides.{nat_tests}
 use Rattle.std.proofs.lemmas.Nat.{pow_pos}
 use Rattle.lifetime_segments.proofs.Spans.{double}
@@ -32,30 +32,19 @@ take-returns-in-Few g t c lives is_of =
 
 pub take-take_from_node-requires : goal.take-take_from_node-requires
 take-take_from_node-requires g t c κs within =
-    let leads : LeadsTo c.args.trie.now c.in-Full.node.value = subst (λ trie. LeadsTo trie c.in-Full.node.value) (sym c.in-Full.is) (refl, refl, refl) in
-    let has : NodeHasOne g.O.Order.stands_before c.args.level c.args.life c.deref_mut.result.now =
-    subst (NodeHasOne g.O.Order.stands_before c.args.level c.args.life) (sym c.deref_mut.ensures.value) (node_has_one leads c.requires.has) in
+    let has : NodeHasOne g.O.Order.stands_before c.args.level c.args.life c.deref_mut.result.now = node_has_one (leads_by c.in-Full.is c.deref_mut.ensures.value (refl, refl, refl)) c.requires.has in
     search rules
 
 pub take-returns-then-is_bare : goal.take-returns-then-is_bare
 take-returns-then-is_bare g t c lives is_of =
-    let before = g.O.Order.stands_before in
-    let leads : LeadsTo c.args.trie.now c.in-Full.node.value = subst (λ trie. LeadsTo trie c.in-Full.node.value) (sym c.in-Full.is) (refl, refl, refl) in
-    bare_nothing before c.args.level lives c.take_from_node.new.node (subst IsBare c.deref.ensures (c.is_bare.ensures.bare c.if-is_bare.true))
-    (c.take_from_node.ensures lives
-    (subst (IsOfNode before c.args.level (c.args.life ∷ lives)) (sym c.deref_mut.ensures.value) (node_of before c.args.level (c.args.life ∷ lives) c.args.trie.now c.in-Full.node.value leads is_of)))
-    c.clear.new.self c.clear.ensures
+    bare_nothing g.O.Order.stands_before c.args.level lives c.take_from_node.new.node (subst IsBare c.deref.ensures (c.is_bare.ensures.bare c.if-is_bare.true))
+    (c.take_from_node.ensures lives (node_of g.O.Order.stands_before c.args.level (c.args.life ∷ lives) c.args.trie.now c.deref_mut.result.now (leads_by c.in-Full.is c.deref_mut.ensures.value (refl, refl, refl)) is_of)) c.clear.new.self c.clear.ensures
 
 pub take-returns-else-is_bare : goal.take-returns-else-is_bare
 take-returns-else-is_bare g t c lives is_of =
-    let before = g.O.Order.stands_before in
-    let leads : LeadsTo c.args.trie.now c.in-Full.node.value = subst (λ trie. LeadsTo trie c.in-Full.node.value) (sym c.in-Full.is) (refl, refl, refl) in
-    let after =
-    c.take_from_node.ensures lives
-    (subst (IsOfNode before c.args.level (c.args.life ∷ lives)) (sym c.deref_mut.ensures.value) (node_of before c.args.level (c.args.life ∷ lives) c.args.trie.now c.in-Full.node.value leads is_of))
-    in
-    let some = some_where before c.args.level lives c.take_from_node.new.node (λ bare. c.is_bare.ensures.some c.if-is_bare.false (subst IsBare (sym c.deref.ensures) bare)) after in
-    trie_of before c.args.level lives _ c.take_from_node.new.node (refl, refl, refl) some after
+    let after = c.take_from_node.ensures lives (node_of g.O.Order.stands_before c.args.level (c.args.life ∷ lives) c.args.trie.now c.deref_mut.result.now (leads_by c.in-Full.is c.deref_mut.ensures.value (refl, refl, refl)) is_of) in
+    let some = some_where g.O.Order.stands_before c.args.level lives c.take_from_node.new.node (λ bare. c.is_bare.ensures.some c.if-is_bare.false (subst IsBare (sym c.deref.ensures) bare)) after in
+    trie_of g.O.Order.stands_before c.args.level lives _ c.take_from_node.new.node (refl, refl, refl) some after
 
 pub take_second-take-requires : goal.take_second-take-requires
 take_second-take-requires g t c κs within =
