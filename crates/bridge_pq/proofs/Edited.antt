@@ -12,7 +12,7 @@ use Rattle.retro_base.specs.Bridges.{survivors}
 use Rattle.retro_base.specs.BridgeTable.{added}
 use Rattle.retro_base.specs.Carried.{IsPqHistory, IsPqEdit}
 use Rattle.retro_base.specs.Changes.{IsPqChange}
-use Rattle.retro_base.specs.Edits.{add, cut}
+use Rattle.retro_base.specs.Edits.{Edit, add, cut, edited}
 use Rattle.retro_base.specs.InsertedLaws.{fresh_for, kind_for}
 use Rattle.retro_base.specs.Limits.{most_rows}
 use Rattle.retro_base.specs.Replay.{IsValid}
@@ -21,9 +21,11 @@ use Rattle.retro_base.specs.Timeline.{IsFresh, IsReplayable}
 use Rattle.retro_base.specs.Weights.{added_by}
 use Rattle.retro_base.specs.lemmas.bridges.Entries.{In, contains_in, in_contains}
 use Rattle.retro_base.specs.lemmas.bridges.Histories.{added_number}
+use Rattle.bridge_pq.specs.declared.flip.Flip.{Flip}
 use Rattle.bridge_pq.specs.declared.marked_row.MarkedRow.{MarkedRow}
 use Rattle.bridge_pq.specs.declared.marked_entry.MarkedEntry.{MarkedEntry}
 use Rattle.bridge_pq.specs.Bridged.{AddsAt, IsFlipped, Holds, IsBridged}
+use Rattle.bridge_pq.specs.Flips.{Flips, Lacks, Unflipped}
 use Rattle.bridge_pq.specs.MarkedEntries.{entries_in, put_marked, without_entry, marked_so}
 use Rattle.bridge_pq.specs.MarkedRows.{rows_of, AreMarked}
 use Rattle.bridge_pq.proofs.Places.{insert-at, map-insert, map-remove, map-get, set-inserted}
@@ -57,30 +59,12 @@ few-entries items entries bridged = omega (arith, bridged.holds.as_many, added-l
 pub few-rows : (items : List MarkedRow) (entries : List MarkedEntry) → IsBridged items entries → length items ≤ most_rows
 few-rows items entries bridged = omega (arith, bridged.replayable.few, rows-length items)
 
--- rows and entries whose marks are still those of before
-pub record Unflipped (rows : List Row) (before : List Entry) (items : List MarkedRow) (entries : List MarkedEntry) : Type 0 where
-  pub rows_are : rows_of items ≡ rows
-  pub replayable : IsReplayable Pq rows
-  pub marked : AreMarked before items
-  pub holds : Holds rows before entries
-
+-- rows and entries whose marks are still those of before, where an entry that a row of these adds is flipped
 module _ (rows : List Row) (before : List Entry) (items : List MarkedRow) (entries : List MarkedEntry) (unflipped : Unflipped rows before items entries) (p : ℕ) (e : Entry) (at : AddsAt rows p e) where
-  same_length : length items ≡ length rows
-  same_length = sym (rows-length items) ∙ ap length unflipped.rows_are
-
-  pub flip_marks-within : p < length items
-  flip_marks-within = omega (arith, same_length, adds-within rows p e at)
-
-  pub flip_marks-few : length entries ≤ length items
-  flip_marks-few = omega (arith, unflipped.holds.as_many, added-le rows, same_length)
-
-  pub flip_marks-among : Contains (entries_in entries) e
-  flip_marks-among = (unflipped.holds.same e).1 (in_contains _ e (adds-in rows p at.0 e at.1 at.2))
-
-  pub flip_marks-done : (b : Bool) → IsFlipped before (survivors rows) e b → (new_items : List MarkedRow) (new_entries : List MarkedEntry)
+  flip_done : (b : Bool) → IsFlipped before (survivors rows) e b → (new_items : List MarkedRow) (new_entries : List MarkedEntry)
       → ((item : MarkedRow) → slice_get items p ≡ Some item → new_items ≡ slice_set items p (record { row = item.row; survives = b })) → new_entries ≡ marked_so e b entries
       → IsBridged new_items new_entries × (rows_of new_items ≡ rows)
-  flip_marks-done b flip new_items new_entries set marked =
+  flip_done b flip new_items new_entries set marked =
       let found = map-get (λ (item : MarkedRow). item.row) items p at.0 (ap (λ l. slice_get l p) unflipped.rows_are ∙ at.1) in
       let item = found.0 in
       let adds : added_by item.row ≡ Some e = ap added_by found.2 ∙ at.2 in
@@ -96,6 +80,31 @@ module _ (rows : List Row) (before : List Entry) (items : List MarkedRow) (entri
         },
         rows_same,
       )
+
+module _ (items : List MarkedRow) (entries : List MarkedEntry) (flip : Flip) (lacks : Lacks items entries flip) where
+  same_length : length items ≡ length lacks.rows
+  same_length = sym (rows-length items) ∙ ap length lacks.unflipped.rows_are
+
+  pub lacks-within : flip.place < length items
+  lacks-within = omega (arith, same_length, adds-within lacks.rows flip.place flip.entry lacks.there)
+
+  pub lacks-few : length entries ≤ length items
+  lacks-few = omega (arith, lacks.unflipped.holds.as_many, added-le lacks.rows, same_length)
+
+  pub lacks-among : Contains (entries_in entries) flip.entry
+  lacks-among = (lacks.unflipped.holds.same flip.entry).1 (in_contains _ flip.entry (adds-in lacks.rows flip.place lacks.there.0 flip.entry lacks.there.1 lacks.there.2))
+
+  pub lacks-done : (new_items : List MarkedRow) (new_entries : List MarkedEntry)
+      → ((item : MarkedRow) → slice_get items flip.place ≡ Some item → new_items ≡ slice_set items flip.place (record { row = item.row; survives = flip.survives }))
+      → new_entries ≡ marked_so flip.entry flip.survives entries → IsBridged new_items new_entries × (rows_of new_items ≡ rows_of items)
+  lacks-done new_items new_entries set marked =
+      let done = flip_done lacks.rows lacks.before items entries lacks.unflipped flip.place flip.entry lacks.there flip.survives lacks.marks new_items new_entries set marked in
+      (done.0, done.1 ∙ sym lacks.unflipped.rows_are)
+
+-- what an edit leaves lacks the flip that was found for it
+pub lacks-flip : (rows : List Row) (edit : Edit) (flip : Flip) (items : List MarkedRow) (entries : List MarkedEntry) → Flips rows edit flip
+    → Unflipped (edited rows edit) (survivors rows) items entries → Lacks items entries flip
+lacks-flip rows edit flip items entries flips unflipped = record { rows = edited rows edit; before = survivors rows; unflipped = unflipped; there = flips.there; marks = flips.marks }
 
 own_entry : (rows : List Row) (place : ℕ) (row : Row) (new e : Entry) → place ≤ length rows → added_by row ≡ Some new → AddsAt (insert rows place row) place e → new ≡ e
 own_entry rows place row new e within adds at =
@@ -145,7 +154,7 @@ module _ (items : List MarkedRow) (entries : List MarkedEntry) (bridged : IsBrid
       let marked : new_entries ≡ marked_so e b (put_marked (record { entry = new; present = false }) entries) =
       put_entry ∙ sym (subst (λ x. marked_so x b (put_marked (record { entry = new; present = false }) entries) ≡ put_marked (record { entry = new; present = b }) entries) same
       (put-then-marked new b entries (λ inside. absent_from new adds (contains_in _ new ((bridged.holds.same new).0 (in_contains _ new inside)))))) in
-      flip_marks-done (insert rows place row) (survivors rows) (insert items place (record { row = row; survives = false })) (put_marked (record { entry = new; present = false }) entries)
+      flip_done (insert rows place row) (survivors rows) (insert items place (record { row = row; survives = false })) (put_marked (record { entry = new; present = false }) entries)
       (put-adding new adds _ _ refl refl) place e at b flip new_items new_entries
       (λ item there. put_row ∙ sym (put_then_set items place row false b item within there)) marked
 

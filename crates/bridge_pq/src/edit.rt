@@ -1,6 +1,6 @@
 //! A row comes in or goes, with its entry and the marks that it flips.
 
-ghost use Rattle.std.specs.Prelude.{◌≡◌, ◌^◌, ◌<◌, ◌≤◌, length, slice_get, slice_set, Contains, false, Some, None, IfOk, OnOk, OnErr};
+ghost use Rattle.std.specs.Prelude.{◌≡◌, ◌^◌, ◌<◌, ◌≤◌, length, slice_get, Contains, false, Some, None, IfOk, OnOk, OnErr};
 ghost use Rattle.std.specs.List.{insert, remove};
 ghost use Rattle.retro_base.specs.declared.kind.Kind.TheVariants.{Pq};
 ghost use Rattle.retro_base.specs.Bridges.{survivors};
@@ -10,9 +10,9 @@ ghost use Rattle.retro_base.specs.Replay.{IsValid};
 ghost use Rattle.retro_base.specs.Timeline.{IsReplayable};
 ghost use Rattle.retro_base.specs.Visits.{VisitsWithin};
 ghost use Rattle.retro_base.specs.Weights.{added_by};
-ghost use Rattle.bridge_pq.specs.declared.marked_row.MarkedRow.{MarkedRow};
 ghost use Rattle.bridge_pq.specs.Bridged.{IsBridged};
-ghost use Rattle.bridge_pq.specs.MarkedEntries.{entries_in, Rise, put_marked, marked_so};
+ghost use Rattle.bridge_pq.specs.Flips.{Lacks};
+ghost use Rattle.bridge_pq.specs.MarkedEntries.{entries_in, Rise, put_marked};
 ghost use Rattle.bridge_pq.specs.MarkedRows.{rows_of};
 
 use crate::changes::{gained_with, gained_without, lost_with, lost_without};
@@ -32,13 +32,9 @@ fn flip_marks<L: Ledger>(
     flip: Flip,
     steps: &mut Steps<L>,
 )
-    requires within { flip.place < length rows.old }
-    requires few { length entries.old ≤ length rows.old }
-    requires rise { Rise (entries_in entries.old) }
-    requires among { Contains (entries_in entries.old) flip.entry }
-    ensures rows { (item : MarkedRow) → slice_get rows.old flip.place ≡ Some item
-        → rows.new ≡ slice_set rows.old flip.place (record { row = item.row; survives = flip.survives }) }
-    ensures entries { entries.new ≡ marked_so flip.entry flip.survives entries.old }
+    requires lacks { Lacks rows.old entries.old flip }
+    ensures bridged { IsBridged rows.new entries.new }
+    ensures rows { rows_of rows.new ≡ rows_of rows.old }
     ensures visits { VisitsWithin 48 (length rows.old) steps.old steps.new }
 {
     mark_row(rows, flip.place, flip.survives, steps);

@@ -1,7 +1,7 @@
 use Rattle.std.proofs.Common.{◌≡◌, ◌+◌, length, ap, ◌∙◌, sym, subst, arith, false}
 use Rattle.std.proofs.lemmas.List.Edits.{length-insert}
 use Rattle.std.specs.List.{insert}
-use Rattle.retro_base.specs.Bridges.{survivors}
+use Rattle.retro_base.specs.Edits.{add}
 use Rattle.retro_base.specs.Visits.{VisitsWithin}
 use Rattle.retro_base.specs.VisitsLaws.{visits-add, visits-longer}
 use Rattle.bridge_pq.specs.declared.marked_row.MarkedRow.{MarkedRow}
@@ -10,7 +10,7 @@ use Rattle.bridge_pq.specs.MarkedRows.{rows_of}
 use Rattle.bridge_pq.proofs.Places.{map-insert}
 use Rattle.bridge_pq.proofs.Costs.{visits-more}
 use Rattle.bridge_pq.proofs.EntryEdits.{one_longer}
-use Rattle.bridge_pq.proofs.Edited.{possible-add, new-absent, few-entries, put-adding, put-gained, flip_marks-within, flip_marks-few, flip_marks-among, flip_marks-done}
+use Rattle.bridge_pq.proofs.Edited.{possible-add, new-absent, few-entries, put-adding, put-gained, lacks-flip}
 use Rattle.bridge_pq.proofs.edit.insert_adding.Goals as goal
 
 pub gained_with-flip-requires-clause-possible : goal.gained_with-flip-requires-clause-possible
@@ -67,52 +67,15 @@ returns-then-flip-place-clause-visits g c =
     (visits-longer 48 (length c.args.rows.now) _ _ _ (omega (arith, longer)) c.gained_with-flip.ensures.visits)
     c.in_ok-put_row_with_entry.ensures.ok_visits)
 
-pub flip_marks-requires-clause-within : goal.flip_marks-requires-clause-within
-flip_marks-requires-clause-within g c = flip_marks-within (insert (rows_of c.args.rows.now) c.args.place c.args.row)
-    (survivors (rows_of c.args.rows.now)) c.put_row_with_entry-2.new.rows c.put_row_with_entry-2.new.entries
-    (put-adding c.args.rows.now c.args.entries.now c.requires.bridged c.args.place c.args.row c.requires.within c.requires.replayable c.args.new c.requires.adds
-    c.put_row_with_entry-2.new.rows c.put_row_with_entry-2.new.entries
-    c.in_ok-put_row_with_entry-2.ensures.rows c.in_ok-put_row_with_entry-2.ensures.entries) c.gained_with-flip.result.place c.gained_with-flip.result.entry
-    c.gained_with-flip.ensures.flips.there
-
-pub flip_marks-requires-clause-few : goal.flip_marks-requires-clause-few
-flip_marks-requires-clause-few g c = flip_marks-few (insert (rows_of c.args.rows.now) c.args.place c.args.row)
-    (survivors (rows_of c.args.rows.now)) c.put_row_with_entry-2.new.rows c.put_row_with_entry-2.new.entries
-    (put-adding c.args.rows.now c.args.entries.now c.requires.bridged c.args.place c.args.row c.requires.within c.requires.replayable c.args.new c.requires.adds
-    c.put_row_with_entry-2.new.rows c.put_row_with_entry-2.new.entries
-    c.in_ok-put_row_with_entry-2.ensures.rows c.in_ok-put_row_with_entry-2.ensures.entries) c.gained_with-flip.result.place c.gained_with-flip.result.entry
-    c.gained_with-flip.ensures.flips.there
-
-pub flip_marks-requires-clause-rise : goal.flip_marks-requires-clause-rise
-flip_marks-requires-clause-rise g c = (put-adding c.args.rows.now c.args.entries.now c.requires.bridged c.args.place c.args.row c.requires.within
-    c.requires.replayable c.args.new c.requires.adds c.put_row_with_entry-2.new.rows
-    c.put_row_with_entry-2.new.entries c.in_ok-put_row_with_entry-2.ensures.rows c.in_ok-put_row_with_entry-2.ensures.entries).holds.rise
-
-pub flip_marks-requires-clause-among : goal.flip_marks-requires-clause-among
-flip_marks-requires-clause-among g c = flip_marks-among (insert (rows_of c.args.rows.now) c.args.place c.args.row)
-    (survivors (rows_of c.args.rows.now)) c.put_row_with_entry-2.new.rows c.put_row_with_entry-2.new.entries
-    (put-adding c.args.rows.now c.args.entries.now c.requires.bridged c.args.place c.args.row c.requires.within c.requires.replayable c.args.new c.requires.adds
-    c.put_row_with_entry-2.new.rows c.put_row_with_entry-2.new.entries
-    c.in_ok-put_row_with_entry-2.ensures.rows c.in_ok-put_row_with_entry-2.ensures.entries) c.gained_with-flip.result.place c.gained_with-flip.result.entry
-    c.gained_with-flip.ensures.flips.there
-
-pub returns-clause-bridged : goal.returns-clause-bridged
-returns-clause-bridged g c = (flip_marks-done (insert (rows_of c.args.rows.now) c.args.place c.args.row)
-    (survivors (rows_of c.args.rows.now)) c.put_row_with_entry-2.new.rows c.put_row_with_entry-2.new.entries
-    (put-adding c.args.rows.now c.args.entries.now c.requires.bridged c.args.place c.args.row c.requires.within c.requires.replayable c.args.new c.requires.adds
-    c.put_row_with_entry-2.new.rows c.put_row_with_entry-2.new.entries
-    c.in_ok-put_row_with_entry-2.ensures.rows c.in_ok-put_row_with_entry-2.ensures.entries) c.gained_with-flip.result.place c.gained_with-flip.result.entry
-    c.gained_with-flip.ensures.flips.there c.gained_with-flip.result.survives c.gained_with-flip.ensures.flips.marks c.flip_marks.new.rows
-    c.flip_marks.new.entries c.flip_marks.ensures.rows c.flip_marks.ensures.entries).0
+pub flip_marks-requires : goal.flip_marks-requires
+flip_marks-requires g c = record {
+  lacks = lacks-flip (rows_of c.args.rows.now) (add c.args.place c.args.row) c.gained_with-flip.result c.put_row_with_entry-2.new.rows c.put_row_with_entry-2.new.entries c.gained_with-flip.ensures.flips
+      (put-adding c.args.rows.now c.args.entries.now c.requires.bridged c.args.place c.args.row c.requires.within c.requires.replayable c.args.new c.requires.adds c.put_row_with_entry-2.new.rows c.put_row_with_entry-2.new.entries
+      c.in_ok-put_row_with_entry-2.ensures.rows c.in_ok-put_row_with_entry-2.ensures.entries);
+}
 
 pub returns-clause-rows : goal.returns-clause-rows
-returns-clause-rows g c = (flip_marks-done (insert (rows_of c.args.rows.now) c.args.place c.args.row)
-    (survivors (rows_of c.args.rows.now)) c.put_row_with_entry-2.new.rows c.put_row_with_entry-2.new.entries
-    (put-adding c.args.rows.now c.args.entries.now c.requires.bridged c.args.place c.args.row c.requires.within c.requires.replayable c.args.new c.requires.adds
-    c.put_row_with_entry-2.new.rows c.put_row_with_entry-2.new.entries
-    c.in_ok-put_row_with_entry-2.ensures.rows c.in_ok-put_row_with_entry-2.ensures.entries) c.gained_with-flip.result.place c.gained_with-flip.result.entry
-    c.gained_with-flip.ensures.flips.there c.gained_with-flip.result.survives c.gained_with-flip.ensures.flips.marks c.flip_marks.new.rows
-    c.flip_marks.new.entries c.flip_marks.ensures.rows c.flip_marks.ensures.entries).1
+returns-clause-rows g c = c.flip_marks.ensures.rows ∙ ap rows_of c.in_ok-put_row_with_entry-2.ensures.rows ∙ map-insert (λ (item : MarkedRow). item.row) c.args.rows.now c.args.place (record { row = c.args.row; survives = false })
 
 pub returns-clause-visits : goal.returns-clause-visits
 returns-clause-visits g c =

@@ -1,13 +1,14 @@
 use Rattle.std.proofs.Common.{◌≡◌, ◌+◌, length, ap, ◌∙◌, sym, subst, arith, false}
 use Rattle.std.proofs.lemmas.List.Edits.{length-insert}
-use Rattle.std.specs.List.{insert}
-use Rattle.retro_base.specs.Bridges.{survivors}
+use Rattle.retro_base.specs.Edits.{add}
 use Rattle.retro_base.specs.Visits.{VisitsWithin}
 use Rattle.retro_base.specs.VisitsLaws.{visits-add, visits-longer}
+use Rattle.bridge_pq.specs.declared.marked_row.MarkedRow.{MarkedRow}
 use Rattle.bridge_pq.specs.MarkedRows.{rows_of}
+use Rattle.bridge_pq.proofs.Places.{map-insert}
 use Rattle.bridge_pq.proofs.Costs.{visits-more}
 use Rattle.bridge_pq.proofs.EntryEdits.{one_longer}
-use Rattle.bridge_pq.proofs.Edited.{possible-add, put-taking, flip_marks-within, flip_marks-few, flip_marks-among, flip_marks-done}
+use Rattle.bridge_pq.proofs.Edited.{possible-add, put-taking, lacks-flip}
 use Rattle.bridge_pq.proofs.edit.insert_taking.Goals as goal
 
 pub lost_with-flip-requires-clause-possible : goal.lost_with-flip-requires-clause-possible
@@ -21,42 +22,15 @@ returns-in_err-insert-clause-visits g c =
     (subst (λ rows. VisitsWithin 48 (length rows) c.args.steps.now c.lost_with-flip.new.steps) same c.lost_with-flip.ensures.visits)
     c.insert.ensures.visits)
 
-pub flip_marks-requires-clause-within : goal.flip_marks-requires-clause-within
-flip_marks-requires-clause-within g c = flip_marks-within (insert (rows_of c.args.rows.now) c.args.place c.args.row)
-    (survivors (rows_of c.args.rows.now)) c.insert.new.self c.args.entries.now
-    (put-taking c.args.rows.now c.args.entries.now c.requires.bridged c.args.place c.args.row c.requires.within c.requires.replayable c.requires.takes c.insert.new.self
-    (rw c.new.ensures at c.in_ok-insert.ensures.ok)) c.lost_with-flip.result.place
-    c.lost_with-flip.result.entry c.lost_with-flip.ensures.flips.there
-
-pub flip_marks-requires-clause-few : goal.flip_marks-requires-clause-few
-flip_marks-requires-clause-few g c = flip_marks-few (insert (rows_of c.args.rows.now) c.args.place c.args.row)
-    (survivors (rows_of c.args.rows.now)) c.insert.new.self c.args.entries.now
-    (put-taking c.args.rows.now c.args.entries.now c.requires.bridged c.args.place c.args.row c.requires.within c.requires.replayable c.requires.takes c.insert.new.self
-    (rw c.new.ensures at c.in_ok-insert.ensures.ok)) c.lost_with-flip.result.place
-    c.lost_with-flip.result.entry c.lost_with-flip.ensures.flips.there
-
-pub flip_marks-requires-clause-among : goal.flip_marks-requires-clause-among
-flip_marks-requires-clause-among g c = flip_marks-among (insert (rows_of c.args.rows.now) c.args.place c.args.row)
-    (survivors (rows_of c.args.rows.now)) c.insert.new.self c.args.entries.now
-    (put-taking c.args.rows.now c.args.entries.now c.requires.bridged c.args.place c.args.row c.requires.within c.requires.replayable c.requires.takes c.insert.new.self
-    (rw c.new.ensures at c.in_ok-insert.ensures.ok)) c.lost_with-flip.result.place
-    c.lost_with-flip.result.entry c.lost_with-flip.ensures.flips.there
-
-pub returns-clause-bridged : goal.returns-clause-bridged
-returns-clause-bridged g c = (flip_marks-done (insert (rows_of c.args.rows.now) c.args.place c.args.row)
-    (survivors (rows_of c.args.rows.now)) c.insert.new.self c.args.entries.now
-    (put-taking c.args.rows.now c.args.entries.now c.requires.bridged c.args.place c.args.row c.requires.within c.requires.replayable c.requires.takes c.insert.new.self
-    (rw c.new.ensures at c.in_ok-insert.ensures.ok)) c.lost_with-flip.result.place
-    c.lost_with-flip.result.entry c.lost_with-flip.ensures.flips.there c.lost_with-flip.result.survives c.lost_with-flip.ensures.flips.marks
-    c.flip_marks.new.rows c.flip_marks.new.entries c.flip_marks.ensures.rows c.flip_marks.ensures.entries).0
+pub flip_marks-requires : goal.flip_marks-requires
+flip_marks-requires g c = record {
+  lacks = lacks-flip (rows_of c.args.rows.now) (add c.args.place c.args.row) c.lost_with-flip.result c.insert.new.self c.args.entries.now c.lost_with-flip.ensures.flips
+      (put-taking c.args.rows.now c.args.entries.now c.requires.bridged c.args.place c.args.row c.requires.within c.requires.replayable c.requires.takes c.insert.new.self
+      (rw c.new.ensures at c.in_ok-insert.ensures.ok));
+}
 
 pub returns-clause-rows : goal.returns-clause-rows
-returns-clause-rows g c = (flip_marks-done (insert (rows_of c.args.rows.now) c.args.place c.args.row)
-    (survivors (rows_of c.args.rows.now)) c.insert.new.self c.args.entries.now
-    (put-taking c.args.rows.now c.args.entries.now c.requires.bridged c.args.place c.args.row c.requires.within c.requires.replayable c.requires.takes c.insert.new.self
-    (rw c.new.ensures at c.in_ok-insert.ensures.ok)) c.lost_with-flip.result.place
-    c.lost_with-flip.result.entry c.lost_with-flip.ensures.flips.there c.lost_with-flip.result.survives c.lost_with-flip.ensures.flips.marks
-    c.flip_marks.new.rows c.flip_marks.new.entries c.flip_marks.ensures.rows c.flip_marks.ensures.entries).1
+returns-clause-rows g c = c.flip_marks.ensures.rows ∙ ap rows_of (rw c.new.ensures at c.in_ok-insert.ensures.ok) ∙ map-insert (λ (item : MarkedRow). item.row) c.args.rows.now c.args.place (record { row = c.args.row; survives = false })
 
 pub returns-clause-visits : goal.returns-clause-visits
 returns-clause-visits g c =
