@@ -22,6 +22,7 @@ pub mod Chunked
 pub mod Swapped
 pub mod Compared
 pub mod Edged
+pub mod RowEdits
 pub mod Edited
 pub mod Parts
 pub mod Worn

@@ -16,7 +16,12 @@ there_within [] place row there = absurd (cc)
 there_within (x ∷ rows) zero row there = omega arith
 there_within (x ∷ rows) (suc place) row there = omega (arith, there_within rows place row there)
 
--- the row there is that of the later part
+-- the row there is that of the earlier part, or of the later one
+pub there_earlier : (earlier later : List Row) (place : ℕ) (row : Row) → place < length earlier → slice_get (earlier ++ later) place ≡ Some row → slice_get earlier place ≡ Some row
+there_earlier [] later place row within there = absurd (omega (arith, within))
+there_earlier (x ∷ earlier) later zero row within there = there
+there_earlier (x ∷ earlier) later (suc place) row within there = there_earlier earlier later place row (omega (arith, within)) there
+
 pub there_later : (earlier later : List Row) (place : ℕ) (row : Row) → length earlier ≤ place → slice_get (earlier ++ later) place ≡ Some row
     → slice_get later (place - length earlier) ≡ Some row
 there_later [] later place row beyond there = ap (slice_get later) (let same : place - 0 ≡ place = omega arith in same) ∙ there

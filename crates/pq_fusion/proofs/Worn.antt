@@ -1,8 +1,10 @@
 -- What an edit of one side of a pair adds to the wear of the pair.
-use Rattle.std.proofs.Common.{◌≡◌, ℕ, zero, suc, ◌+◌, ◌*◌, ◌≤◌, List, ◌++◌, length, sym, subst, arith, length-append, Result, Ok, Err, OnOk}
+use Rattle.std.proofs.Common.{◌≡◌, ℕ, zero, suc, ◌+◌, ◌*◌, ◌≤◌, ◌⊎◌, inl, inr, false, List, ◌++◌, length, sym, subst, arith, length-append, Result, Ok, Err, OnOk}
+use Rattle.std.proofs.lemmas.Bool.Decides.{nat_tests}
 use Rattle.retro_base.specs.declared.row.Row.{Row}
 use Rattle.retro_base.specs.Digits.{digits}
 use Rattle.pq_fusion.specs.Nodes.{weight, IsBalanced}
+use Rattle.pq_fusion.specs.Passages.{make_pair}
 use Rattle.pq_fusion.specs.Wear.{WornRows, gap, joined}
 use Rattle.pq_fusion.specs.WearLevels.{AnewOnLevels, AnewWithin}
 use Rattle.pq_fusion.proofs.Stored.{levels-of_digits}
@@ -38,6 +40,12 @@ module _ (earlier later edited : WornRows) (balanced : IsBalanced (length earlie
         rare levels (within (weight later.rows) (omega (arith, balanced.later_light, both))),
         gap_later (length earlier.rows) (length later.rows) (length edited.rows) more less,
       )
+
+-- sides that an edit brings out of balance have so much wear that it pays for their rows, or these are few
+pub out_of_balance : (earlier later next_earlier next_later : ℕ) → make_pair next_earlier next_later ≡ false → next_earlier ≤ earlier + 1 → earlier ≤ next_earlier + 1
+    → next_later ≤ later + 1 → later ≤ next_later + 1 → (next_earlier ≡ earlier) ⊎ (next_later ≡ later) → earlier + later ≤ 64 + 2 * gap earlier later
+out_of_balance earlier later next_earlier next_later out first second third fourth (inl same) = grind (arith, nat_tests)
+out_of_balance earlier later next_earlier next_later out first second third fourth (inr same) = grind (arith, nat_tests)
 
 -- in digits, of which a tree has 3 levels at most for each, and seen from outside
 pub rare_seen : (before after seen : WornRows) (edited : List Row) (start end : ℕ) → seen.rows ≡ before.rows → seen.wear ≡ before.wear → AnewOnLevels before after start end

@@ -9,6 +9,7 @@ pub mod Nodes
 pub mod WearLevels
 pub mod Roots
 pub mod NodesFall
+pub mod RowEdits
 pub mod Passages
 pub mod EntryCounts
 pub mod Searches

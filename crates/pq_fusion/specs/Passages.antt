@@ -1,29 +1,26 @@
 -- A pair that is edited below.
-use Rattle.std.specs.Prelude.{◌≡◌, ℕ, Bool, true, false, ◌+◌, ◌-◌, ◌*◌, ◌<◌, ◌≤◌, ◌⊎◌, length, nat_lt, nat_le, if◌then◌else◌}
-use Rattle.std.specs.List.{insert, remove}
-use Rattle.retro_base.specs.declared.row.Row.{Row}
-use Rattle.retro_base.specs.Weights.{added_by}
+use Rattle.std.specs.Prelude.{◌≡◌, ℕ, Bool, true, false, ◌+◌, ◌*◌, ◌⊎◌, length, nat_lt, if◌then◌else◌}
 use Rattle.pq_fusion.specs.declared.bound.Bound.{Bound}
+use Rattle.pq_fusion.specs.declared.row_edit.RowEdit.{RowEdit}
 use Rattle.pq_fusion.specs.declared.subtree.Pair.{Pair}
-use Rattle.pq_fusion.specs.Edits.{DiffersBy, boundary_of}
+use Rattle.pq_fusion.specs.Edits.{boundary_of}
 use Rattle.pq_fusion.specs.Nodes.{IsPair, pair_rows}
 use Rattle.pq_fusion.specs.Pieces.{PieceParts, tolerant}
+use Rattle.pq_fusion.specs.RowEdits.{PassesBy, count_after, edited, is_first, past}
 use Rattle.pq_fusion.specs.Wear.{WornRows}
-
--- both sides stay in balance where a row is put in at the place: where they meet it comes to the earlier
-abbrev pub bears : Pair → ℕ → Bool
-bears pair place = if nat_le place (length pair.earlier.rows) then nat_lt (length pair.earlier.rows + 1) (3 * length pair.later.rows)
-    else nat_lt (length pair.later.rows + 1) (3 * length pair.earlier.rows)
 
 -- a pair of fewer rows is made a run
 abbrev pub least_pair : ℕ
 least_pair = 33
 
--- both sides stay in balance, and the rows those of a pair, where the row at the place goes
-abbrev pub spares : Pair → ℕ → Bool
-spares pair place = if nat_le (length pair.earlier.rows + length pair.later.rows) least_pair then false
-    else (if nat_lt place (length pair.earlier.rows) then nat_lt (length pair.later.rows + 3) (3 * length pair.earlier.rows)
-    else nat_lt (length pair.earlier.rows + 3) (3 * length pair.later.rows))
+-- sides of so many rows are in balance, and these are those of a pair
+abbrev pub make_pair : ℕ → ℕ → Bool
+make_pair earlier later = if nat_lt (earlier + later) least_pair then false else (if nat_lt earlier (3 * later) then nat_lt later (3 * earlier) else false)
+
+-- so they are after an edit
+abbrev pub bears : Pair → RowEdit → Bool
+bears pair edit = if is_first edit.way edit.place (length pair.earlier.rows) then make_pair (count_after edit.way (length pair.earlier.rows)) (length pair.later.rows)
+    else make_pair (length pair.earlier.rows) (count_after edit.way (length pair.later.rows))
 
 -- a pair with another side
 abbrev pub with_earlier : Pair → WornRows → Pair
@@ -36,29 +33,20 @@ with_later pair part = record { earlier = pair.earlier; later = part; size = pai
 abbrev pub with_piece : Pair → PieceParts → Pair
 with_piece pair piece = record { earlier = pair.earlier; later = pair.later; size = pair.size; piece = piece }
 
--- the pair where a row comes in on the side of a place, and where the row there goes
-abbrev pub Puts : Pair → ℕ → Row → Pair → Type 0
-Puts pair place row edited =
-    ((place ≤ length pair.earlier.rows) × (edited.earlier.rows ≡ insert pair.earlier.rows place row) × (edited ≡ with_earlier pair edited.earlier))
-    ⊎ ((length pair.earlier.rows < place) × (edited.later.rows ≡ insert pair.later.rows (place - length pair.earlier.rows) row) × (edited ≡ with_later pair edited.later))
+-- the pair where the edit is made on its side
+abbrev pub Edits : RowEdit → Pair → Pair → Type 0
+Edits edit pair after =
+    ((is_first edit.way edit.place (length pair.earlier.rows) ≡ true) × (after.earlier.rows ≡ edited edit pair.earlier.rows) × (after ≡ with_earlier pair after.earlier))
+    ⊎ ((is_first edit.way edit.place (length pair.earlier.rows) ≡ false) × (after.later.rows ≡ edited (past edit (length pair.earlier.rows)) pair.later.rows)
+    × (after ≡ with_later pair after.later))
 
-abbrev pub Cuts : Pair → ℕ → Pair → Type 0
-Cuts pair place edited =
-    ((place < length pair.earlier.rows) × (edited.earlier.rows ≡ remove pair.earlier.rows place) × (edited ≡ with_earlier pair edited.earlier))
-    ⊎ ((length pair.earlier.rows ≤ place) × (edited.later.rows ≡ remove pair.later.rows (place - length pair.earlier.rows)) × (edited ≡ with_later pair edited.later))
-
--- the boundary of a pair where a row is put in; behind all others one that adds an entry passes its own, whatever stands there
+-- the boundary of a pair where a row is edited at a place; behind all others one that adds an entry passes its own, whatever stands there
 abbrev pub IsBoundaryFor : Bool → ℕ → Pair → Bound → Type 0
 IsBoundaryFor gains place pair boundary = ((gains ≡ true) × (place ≡ length (pair_rows pair)))
     ⊎ (boundary ≡ boundary_of gains (tolerant pair.earlier.rows) (tolerant pair.later.rows))
 
 -- a pair of the edited rows, and what passes between what they leave and what they do not
-pub record IsPut (pair : Pair) (place : ℕ) (row : Row) (edited : Pair) (passed : Bound) : Type 0 where
-  pub sound : IsPair edited
-  pub rows_are : pair_rows edited ≡ insert (pair_rows pair) place row
-  pub differs : DiffersBy (added_by row) passed (tolerant (pair_rows pair)) (tolerant (insert (pair_rows pair) place row))
-
-pub record IsCut (pair : Pair) (place : ℕ) (row : Row) (edited : Pair) (passed : Bound) : Type 0 where
-  pub sound : IsPair edited
-  pub rows_are : pair_rows edited ≡ remove (pair_rows pair) place
-  pub differs : DiffersBy (added_by row) passed (tolerant (remove (pair_rows pair) place)) (tolerant (pair_rows pair))
+pub record IsEdited (edit : RowEdit) (pair after : Pair) (passed : Bound) : Type 0 where
+  pub sound : IsPair after
+  pub rows_are : pair_rows after ≡ edited edit (pair_rows pair)
+  pub passes : PassesBy edit passed (pair_rows pair)

@@ -21,6 +21,7 @@ ghost use Rattle.pq_fusion.specs.Wear.{unworn};
 ghost use Rattle.pq_fusion.specs.WearLevels.{AnewOnLevels, AnewWithin};
 
 use crate::answer::keys_of;
+use crate::row_edit::{RowEdit, Way};
 use crate::subtree::Subtree;
 use crate::{Anew, Piece};
 use bridge_pq::BridgeQueue;
@@ -174,7 +175,9 @@ impl FusedQueue {
     {
         let _few = self.queue.len();
         let row = self.rows.row_at(place, steps);
-        self.rows.remove(self.alloc, place, row, steps, anew)?;
+        let way = Way::Cut;
+        let edit = RowEdit { way, place, row };
+        self.rows.edit(self.alloc, edit, steps, anew)?;
         Ok(self.queue.remove(place, steps))
     }
 
@@ -321,7 +324,9 @@ fn insert_into_both<L: Ledger, M: Ledger>(
 {
     let _replayable = queue.kind();
     let change = queue.insert(place, row, steps)?;
-    if let Err(error) = rows.insert(alloc, place, row, steps, anew) {
+    let way = Way::Put;
+    let edit = RowEdit { way, place, row };
+    if let Err(error) = rows.edit(alloc, edit, steps, anew) {
         queue.remove(place, steps);
         return Err(error);
     }

@@ -73,8 +73,9 @@
 //!
 //! - `piece`, `merge`, `of_rows`: a piece, two rising lists together, and the piece of rows one after another. `bound`: an entry, or what
 //!   is less or greater than each.
-//! - `subtree`, `root`: the tree of rows, and what stands at its root. `read`: its products. `remaining`: what a product leaves. `edit`: a
-//!   row more or less. `sides`: the balance of a pair, and its boundary. `rebuild`: a part that is made anew. `anew`: the counter of its rows.
+//! - `subtree`, `root`: the tree of rows, and what stands at its root. `read`: its products. `remaining`: what a product leaves.
+//!   `row_edit`: a row more or less. `edit`: how the tree takes it. `sides`: the balance of a pair, and its boundary. `rebuild`: a part
+//!   that is made anew. `anew`: the counter of its rows.
 //! - `entry_list`, `chunks`, `chunk_edits`: entries in rising order with room for an edit, a long list of them in chunks, and an entry that
 //!   comes into one of these or goes. `node_piece`: a piece in two such lists. `exchange`: one entry of a list in the
 //!   place of another. `window`: where in a list a place may lie, while it is sought. `boundary`: the entry at a rank of two lists
@@ -104,6 +105,7 @@ mod read;
 mod rebuild;
 mod remaining;
 mod root;
+mod row_edit;
 mod select;
 mod sides;
 mod subtree;

@@ -1,20 +1,19 @@
 //! A part of the tree that is made anew: its rows are halved until they are runs.
 
-ghost use Rattle.std.specs.Prelude.{◌≡◌, ◌+◌, ◌<◌, ◌≤◌, length, slice_get, Some, IfOk, OnOk, OnErr};
-ghost use Rattle.std.specs.List.{insert, remove};
+ghost use Rattle.std.specs.Prelude.{◌≡◌, ◌+◌, ◌≤◌, length, IfOk, OnOk, OnErr};
+ghost use Rattle.std.specs.List.{insert};
 ghost use Rattle.retro_base.specs.declared.kind.Kind.TheVariants.{Pq};
 ghost use Rattle.retro_base.specs.Kind.{kind_of};
 ghost use Rattle.retro_base.specs.Limits.{most_rows};
 ghost use Rattle.retro_base.specs.Timeline.{AreOfKind};
-ghost use Rattle.retro_base.specs.Weights.{added_by};
-ghost use Rattle.pq_fusion.specs.Edits.{DiffersBy};
 ghost use Rattle.pq_fusion.specs.Nodes.{IsBalanced, longest_run};
-ghost use Rattle.pq_fusion.specs.Pieces.{tolerant};
+ghost use Rattle.pq_fusion.specs.RowEdits.{CanBeMade, PassesBy, edited};
 ghost use Rattle.pq_fusion.specs.Wear.{joined, unworn};
 
 use crate::anew::Anew;
 use crate::difference::difference;
 use crate::node_piece::NodePiece;
+use crate::row_edit::{RowEdit, Way};
 use crate::subtree::{Pair, Run, Subtree};
 use crate::{Bound, Piece};
 use retro_base::{NoMemory, PackedRow, Row};
@@ -90,31 +89,21 @@ impl Subtree {
         Subtree::of_sides(alloc, earlier, later)
     }
 
-    /// The rows and one more at a place.
-    fn rows_with(&self, alloc: Global, place: u32, row: Row) -> Result<Vec<PackedRow>, NoMemory>
-        requires within { place ≤ length self.now.rows }
-        requires room { length self.now.rows < most_rows }
-        requires of_kind { kind_of row.op ≡ Pq }
-        ensures rows { IfOk result (λ rows. rows.items ≡ insert self.now.rows place row) }
+    /// The rows after an edit.
+    fn rows_after(&self, alloc: Global, edit: RowEdit) -> Result<Vec<PackedRow>, NoMemory>
+        requires { CanBeMade edit self.now.rows }
+        ensures rows { IfOk result (λ rows. rows.items ≡ edited edit self.now.rows) }
         ensures of_kind { IfOk result (λ rows. AreOfKind Pq rows.items) }
         ensures few { IfOk result (λ rows. length rows.items ≤ most_rows) }
     {
         let mut rows = Vec::with_capacity(alloc, self.len() as usize + 1)?;
         self.append_to(&mut rows)?;
-        rows.insert(place as usize, PackedRow::new(row))?;
-        Ok(rows)
-    }
-
-    /// The rows but the one at a place.
-    fn rows_without(&self, alloc: Global, place: u32) -> Result<Vec<PackedRow>, NoMemory>
-        requires within { place < length self.now.rows }
-        ensures rows { IfOk result (λ rows. rows.items ≡ remove self.now.rows place) }
-        ensures of_kind { IfOk result (λ rows. AreOfKind Pq rows.items) }
-        ensures few { IfOk result (λ rows. length rows.items ≤ most_rows) }
-    {
-        let mut rows = Vec::with_capacity(alloc, self.len() as usize)?;
-        self.append_to(&mut rows)?;
-        rows.remove(place as usize);
+        match edit.way {
+            Way::Put => rows.insert(edit.place as usize, PackedRow::new(edit.row))?,
+            Way::Cut => {
+                rows.remove(edit.place as usize);
+            }
+        }
         Ok(rows)
     }
 
@@ -145,80 +134,48 @@ impl Subtree {
         Ok(subtree)
     }
 
-    /// The subtree of the rows here and one more at a place, in runs of no more than `longest`.
-    fn with_row<M: Ledger>(
+    /// The subtree of the rows after an edit, in runs of no more than `longest`.
+    fn after_edit<M: Ledger>(
         &self,
         alloc: Global,
-        place: u32,
-        row: Row,
+        edit: RowEdit,
         longest: usize,
         anew: &mut Anew<M>,
     ) -> Result<Subtree, NoMemory>
-        requires within { place ≤ length self.now.rows }
-        requires room { length self.now.rows < most_rows }
-        requires of_kind { kind_of row.op ≡ Pq }
+        requires possible { CanBeMade edit self.now.rows }
         requires some { 1 ≤ longest }
         requires short { longest ≤ longest_run }
-        ensures new { IfOk result (λ new. new ≡ unworn (insert self.now.rows place row)) }
-        ensures made { OnOk result (anew.new ≡ anew.old + length (insert self.now.rows place row)) }
+        ensures new { IfOk result (λ new. new ≡ unworn (edited edit self.now.rows)) }
+        ensures made { OnOk result (anew.new ≡ anew.old + length (edited edit self.now.rows)) }
         ensures none_lost { anew.old ≤ anew.new }
     {
-        let rows = self.rows_with(alloc, place, row)?;
-        if place == self.len() && rows.as_slice().len() <= longest {
-            return self.with_last(alloc, rows, row, anew);
+        let rows = self.rows_after(alloc, edit)?;
+        if edit.place == self.len() && rows.as_slice().len() <= longest {
+            return self.with_last(alloc, rows, edit.row, anew);
         }
         Subtree::of_rows(alloc, rows.as_slice(), longest, anew)
     }
 
-    /// Puts a row in at a place, with all rows made anew, in runs of no more than `longest`. What passes is found by comparing.
-    pub(crate) fn insert_anew<M: Ledger>(
+    /// Makes an edit, with all rows made anew, in runs of no more than `longest`. What passes is found by comparing.
+    pub(crate) fn edit_anew<M: Ledger>(
         &mut self,
         alloc: Global,
-        place: u32,
-        row: Row,
+        edit: RowEdit,
         longest: usize,
         anew: &mut Anew<M>,
     ) -> Result<Bound, NoMemory>
-        requires within { place ≤ length self.old.rows }
-        requires room { length self.old.rows < most_rows }
-        requires of_kind { kind_of row.op ≡ Pq }
+        requires possible { CanBeMade edit self.old.rows }
         requires some { 1 ≤ longest }
         requires short { longest ≤ longest_run }
-        ensures ok { OnOk result (self.new ≡ unworn (insert self.old.rows place row)) }
+        ensures ok { OnOk result (self.new ≡ unworn (edited edit self.old.rows)) }
         ensures err { OnErr result (self.new ≡ self.old) }
         ensures made { OnOk result (anew.new ≡ anew.old + length self.new.rows) }
+        ensures near { OnOk result (length self.new.rows ≤ length self.old.rows + 1) }
         ensures none_lost { anew.old ≤ anew.new }
-        ensures passed { IfOk result (λ passed. DiffersBy (added_by row) passed (tolerant self.old.rows) (tolerant (insert self.old.rows place row))) }
+        ensures passed { IfOk result (λ passed. PassesBy edit passed self.old.rows) }
     {
-        let new = self.with_row(alloc, place, row, longest, anew)?;
-        let gains = row.added_entry().is_some();
-        let passed = difference(gains, &self.whole(alloc)?, &new.whole(alloc)?);
-        *self = new;
-        Ok(passed)
-    }
-
-    /// Takes the row at a place out, with all others made anew, in runs of no more than `longest`. What passes is found by comparing.
-    pub(crate) fn remove_anew<M: Ledger>(
-        &mut self,
-        alloc: Global,
-        place: u32,
-        row: Row,
-        longest: usize,
-        anew: &mut Anew<M>,
-    ) -> Result<Bound, NoMemory>
-        requires there { slice_get self.old.rows place ≡ Some row }
-        requires some { 1 ≤ longest }
-        requires short { longest ≤ longest_run }
-        ensures ok { OnOk result (self.new ≡ unworn (remove self.old.rows place)) }
-        ensures err { OnErr result (self.new ≡ self.old) }
-        ensures made { OnOk result (anew.new ≡ anew.old + length self.new.rows) }
-        ensures none_lost { anew.old ≤ anew.new }
-        ensures passed { IfOk result (λ passed. DiffersBy (added_by row) passed (tolerant (remove self.old.rows place)) (tolerant self.old.rows)) }
-    {
-        let rows = self.rows_without(alloc, place)?;
-        let new = Subtree::of_rows(alloc, rows.as_slice(), longest, anew)?;
-        let gains = row.added_entry().is_none();
-        let passed = difference(gains, &self.whole(alloc)?, &new.whole(alloc)?);
+        let new = self.after_edit(alloc, edit, longest, anew)?;
+        let passed = difference(edit.gains(), &self.whole(alloc)?, &new.whole(alloc)?);
         *self = new;
         Ok(passed)
     }
