@@ -75,4 +75,5 @@ fn a_bench_answers_line_by_line(rt: HostRuntime) {
     assert!(&rt; !is_fused(&rt, &bench, b"l"));
     let last = last_answer(&rt, &mut bench);
     assert!(&rt; last.as_bytes() == b"refused unfinished\n".as_slice());
+    drop(bench);
 }

@@ -175,6 +175,7 @@ fn expect_steps(rt: &impl Abort, session: &mut Session<PlainList>) {
 fn steps_are_undone_and_made_again(rt: HostRuntime) {
     let mut session = push_and_pop(&rt, rt.alloc());
     expect_steps(&rt, &mut session);
+    drop(session);
 }
 
 /// A row that adds is put in before the old one is cut, and one that takes after it.
@@ -232,6 +233,7 @@ fn rows_are_replaced_in_one_step(rt: HostRuntime) {
     expect_shifts(&rt, &mut session);
     expect_both_edits(&rt, &mut session);
     expect_next(&rt, &session, 5);
+    drop(session);
 }
 
 /// What is asked of a place, and the whole content there.
@@ -260,6 +262,7 @@ fn each_place_is_asked(rt: HostRuntime) {
     let one = Answer::Number { value: 1 };
     expect_at(&rt, &mut session, 0, (Answer::Nothing, &[]));
     expect_at(&rt, &mut session, 1, (one, &[Item::Single { value: 1 }]));
+    drop(session);
 }
 
 /// A row of a block that is read is no step.
@@ -282,4 +285,5 @@ fn a_row_is_appended(rt: HostRuntime) {
     let mut session = appended(&rt, rt.alloc());
     expect_undone(&rt, &mut session, &[Err(UndoError::Nothing)]);
     expect_numbers(&rt, &session, &[7]);
+    drop(session);
 }

@@ -185,6 +185,7 @@ fn expect_refusals<L: Ledger>(rt: &impl Abort, alloc: Global, steps: &mut Steps<
         assert!(rt; failing == Some(2));
     }
     assert!(rt; bridges.failing_without(rt, 0, steps) == Some(0));
+    drop(bridges);
 }
 
 fn expect_present<L: Ledger>(rt: &impl Abort, bridges: &Bridges, steps: &mut Steps<L>) {
@@ -207,6 +208,7 @@ fn expect_copy<L: Ledger>(rt: &impl Abort, bridges: &mut Bridges, steps: &mut St
     expect_rows(rt, bridges.queue(), &[(1, FOUR), (2, Op::DelMin)], steps);
     expect_content(rt, &copy, &[4]);
     expect_rows(rt, &copy, &[(3, TWO), (1, FOUR), (2, Op::DelMin)], steps);
+    drop(copy);
 }
 
 fn worked<L: Ledger>(rt: &impl Abort, alloc: Global, blank: Blank)
@@ -218,6 +220,7 @@ fn worked<L: Ledger>(rt: &impl Abort, alloc: Global, blank: Blank)
     expect_refusals(rt, alloc, &mut steps);
     expect_present(rt, &bridges, &mut steps);
     expect_copy(rt, &mut bridges, &mut steps);
+    drop(bridges);
 }
 
 #[test]

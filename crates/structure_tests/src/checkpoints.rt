@@ -41,6 +41,7 @@ fn a_row_comes_in_before_the_others(rt: HostRuntime) {
     ask_all(&rt, &mut history, &least);
     assert!(rt; history.len() == 3);
     expect_values(&rt, &history.all(&rt, 2), &[2, 4]);
+    drop(history);
 }
 
 /// Sees that all is as it was after so many rows that add.
@@ -83,6 +84,7 @@ fn a_growth_that_fails_changes_nothing(rt: HostRuntime) {
     }
     assert!(&rt; history.len() == 2104);
     ask_again(&rt, &mut history, 1052);
+    drop(history);
 }
 
 /// So many rows whose keys rise from 1 on, so that all their entries stay, asked at some places.
@@ -103,6 +105,7 @@ fn rows_come_into_a_gap(rt: HostRuntime) {
         history.put(&rt, 500, 0, Op::Ins { key: 0 });
     }
     look(&rt, &mut history, 4100);
+    drop(history);
 }
 
 #[test]
@@ -115,6 +118,7 @@ fn checkpoints_go_where_rows_go(rt: HostRuntime) {
     }
     look(&rt, &mut history, 1000);
     assert!(&rt; history.ask(&rt, 500, Question::Min) == number(39_001));
+    drop(history);
 }
 
 #[test]
@@ -126,6 +130,7 @@ fn questions_follow_one_another(rt: HostRuntime) {
     }
     history.put(&rt, 2500, 0, Op::Ins { key: 0 });
     assert!(&rt; history.ask(&rt, 2990, Question::Size) == number(2990));
+    drop(history);
 }
 
 #[test]
@@ -139,4 +144,5 @@ fn a_checkpoint_is_made_and_dropped_by_turns(rt: HostRuntime) {
     look(&rt, &mut history, 2100);
     let nth = history.ask(&rt, 600, Question::Nth { index: 550 });
     assert!(&rt; nth == number(551));
+    drop(history);
 }

@@ -38,4 +38,5 @@ fn either_end_may_have_written(rt: HostRuntime) {
         without: &[2, 9, 1],
     };
     expect_copy(&rt, &mut deque, last);
+    drop(deque);
 }

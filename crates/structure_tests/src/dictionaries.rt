@@ -96,6 +96,7 @@ fn a_row_comes_in_between(rt: HostRuntime) {
     take_back(&rt, &mut history);
     expect_two_rows(&rt, &mut history);
     expect_present(&rt, &mut history);
+    drop(history);
 }
 
 /// Rows that each come in before all others, so many that they do not all halve the first label.
@@ -117,6 +118,7 @@ fn rows_come_in_before_all_others(rt: HostRuntime) {
         (41, GET, number(0)),
     ];
     expect_answers(&rt, &mut history, &answers);
+    drop(history);
 }
 
 const LOW: i64 = i64::MIN;
@@ -192,6 +194,7 @@ fn the_least_and_the_greatest_numbers_are_there(rt: HostRuntime) {
     expect_neighbours(&rt, &mut history);
     expect_sums(&rt, &mut history);
     expect_contents(&rt, &mut history);
+    drop(history);
 }
 
 const FIRST: KeyPair = KeyPair { key: 1, value: 10 };
@@ -259,4 +262,5 @@ fn pairs_are_found_by_their_lifetimes(rt: HostRuntime) {
     assert!(rt; segments.take(2, 8, FIRST));
     assert!(rt; !segments.take(2, 8, FIRST));
     assert_eq!(rt; found_at(&rt, &segments, 5), wanted(false, true));
+    drop(segments);
 }

@@ -44,11 +44,12 @@ fn cut_first(rt: &impl Abort, history: &mut Engines, op: Op) {
     assert!(rt; (taken.number, taken.time, taken.op) == (1, 5, op));
 }
 
-/// The one place where an engine is dropped, which is dear to prove.
+/// The one place where an engine is let go.
 fn follow(rt: &impl Abort, mut history: Engines, first: First) {
     perform_first(rt, &mut history, first);
     expect_item(rt, &mut history, first.item);
     cut_first(rt, &mut history, first.op);
+    drop(history);
 }
 
 #[test]

@@ -94,6 +94,7 @@ fn three_rows_are_one_product(rt: HostRuntime) {
     expect_pieces(&rt, queue.structure());
     expect_past(&rt, &mut queue);
     cut_first(&rt, &mut queue);
+    drop(queue);
 }
 
 /// Two pieces of a few entries, fused.

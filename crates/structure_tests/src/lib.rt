@@ -4,7 +4,8 @@
 //! One file for each crate: `queues`, `stacks`, `deques` and `dictionaries` of the four fully retroactive structures, `bridges`
 //! of `bridge_pq`, `fusions` of `pq_fusion`, `checkpoints` of `checkpoint_full` over the first, `engines` of `engine`, and `plain_lists`
 //! of the plain list of `retro_base`. Most are tested through one `history`, which numbers the rows; `lines` and `listings` have what several files look at. Long histories
-//! and drawn ones are tried on the built program (`tests/limits.py`, `tests/drawn.py`).
+//! and drawn ones are tried on the built program (`tests/limits.py`, `tests/drawn.py`). A test hands its structure to `drop` at its end, which
+//! is quick to prove where the end of a block is not.
 #![tactic(auto)]
 
 #[cfg(test)]

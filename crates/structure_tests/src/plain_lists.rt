@@ -78,7 +78,7 @@ fn a_queue_is_edited_before_a_row(rt: HostRuntime) {
         ],
         content: (3, &[single(3), single(1), single(2)]),
     };
-    play(&rt, rt.alloc(), played);
+    drop(play(&rt, rt.alloc(), played));
 }
 
 #[test]
@@ -96,7 +96,7 @@ fn a_stack_fails_at_a_later_row(rt: HostRuntime) {
         ],
         content: (4, &[single(4), single(3)]),
     };
-    play(&rt, rt.alloc(), played);
+    drop(play(&rt, rt.alloc(), played));
 }
 
 #[test]
@@ -118,7 +118,7 @@ fn a_deque_is_open_at_both_ends(rt: HostRuntime) {
         ],
         content: (4, &[single(2), single(9)]),
     };
-    play(&rt, rt.alloc(), played);
+    drop(play(&rt, rt.alloc(), played));
 }
 
 #[test]
@@ -138,6 +138,7 @@ fn a_key_is_put_and_deleted(rt: HostRuntime) {
     assert!(rt; taken.number == 2);
     assert!(&rt; history.len() == 1);
     assert!(&rt; history.ask(&rt, 1, get) == number(10));
+    drop(history);
 }
 
 #[test]
@@ -151,5 +152,5 @@ fn a_priority_queue_gives_its_least_entry(rt: HostRuntime) {
         answers: &[(3, Question::Min, number(4)), (1, Question::Min, number(2))],
         content: (2, &[single(2), single(4)]),
     };
-    play(&rt, rt.alloc(), played);
+    drop(play(&rt, rt.alloc(), played));
 }

@@ -33,4 +33,5 @@ fn each_place_of_the_past_has_its_content(rt: HostRuntime) {
         without: &[3, 1],
     };
     expect_copy(&rt, &mut queue, last);
+    drop(queue);
 }

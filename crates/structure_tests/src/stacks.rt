@@ -37,4 +37,5 @@ fn items_are_counted_from_the_top(rt: HostRuntime) {
         without: &[2, 1],
     };
     expect_copy(&rt, &mut stack, last);
+    drop(stack);
 }

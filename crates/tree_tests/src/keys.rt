@@ -80,6 +80,8 @@ fn rows_beside_an_edit_decide(rt: HostRuntime) {
     let index = three_rows(&rt, rt.alloc());
     expect_removals(&rt, &index);
     expect_insertions(&rt, &index);
+    drop(empty);
+    drop(index);
 }
 
 fn expect_beside(rt: &impl Abort, index: &KeyIndex) {
@@ -118,6 +120,7 @@ fn neighbours_are_those_on_the_key(rt: HostRuntime) {
     assert_eq!(rt; index.remove(150), None);
     assert_eq!(rt; index.remove(100), Some(PUT));
     assert_eq!(rt; index.before(1, 200), None);
+    drop(index);
 }
 
 #[test]
@@ -126,6 +129,7 @@ fn a_row_is_put_between_its_neighbours(rt: HostRuntime) {
     let beside = index.insert_beside(150, PUT).expect(&rt, "memory");
     assert_eq!(rt; beside.before, Some((100, PUT)));
     assert_eq!(rt; beside.after, Some((200, DEL)));
+    drop(index);
 }
 
 fn labels(rt: &impl Abort, alloc: Global, first: u64, second: u64, third: u64) -> Labels2
@@ -149,4 +153,5 @@ fn relabelled_rows_keep_their_order(rt: HostRuntime) {
     index.relabel(&former, &fresh);
     assert_eq!(rt; index.before(1, 3_000), Some((1_000, PUT)));
     assert_eq!(rt; index.after(1, 1_000), Some((3_000, DEL)));
+    drop(index);
 }

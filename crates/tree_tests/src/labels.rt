@@ -38,6 +38,7 @@ fn labels_halve_what_is_left(rt: HostRuntime) {
     labels.remove(0);
     assert_eq!(rt; labels.len(), 1);
     assert_eq!(rt; labels.place_of_label(824_633_720_832), Some(0));
+    drop(labels);
 }
 
 #[test]
@@ -58,6 +59,7 @@ fn forty_insertions_at_the_front_use_the_labels_up(rt: HostRuntime) {
             (u64::from(place) + 1) * 17_179_869_184
         );
     }
+    drop(labels);
 }
 
 /// Gives a new row at a place this label.
@@ -97,4 +99,5 @@ fn a_label_is_chosen_by_the_caller(rt: HostRuntime) {
     ] {
         assert_eq!(rt; beside(&rt, &labels, place), labels_beside);
     }
+    drop(labels);
 }

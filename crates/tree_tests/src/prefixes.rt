@@ -74,6 +74,7 @@ fn sign_answers<L: Ledger>(rt: &impl Abort, alloc: Global, blank: Blank)
     expect_last_sum(rt, &tree, &mut steps);
     expect_marked(rt, &tree, &mut steps);
     expect_copied_signs(rt, &mut tree, &mut steps);
+    drop(tree);
 }
 
 #[test]

@@ -74,4 +74,5 @@ fn rows_are_found_by_place_time_and_number(rt: HostRuntime) {
     assert!(rt; cut_first(&rt, &mut timeline) == FIRST);
     expect_rows(&rt, &timeline, &[SECOND]);
     expect_numbers(&rt, &timeline, &[(1, None), (2, Some(0))]);
+    drop(timeline);
 }

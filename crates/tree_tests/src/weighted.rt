@@ -138,6 +138,8 @@ fn answers<L: Ledger>(rt: &impl Abort, alloc: Global, blank: Blank)
     expect_measure(rt, &tree, &mut steps);
     reads(rt, &tree, &mut steps);
     edited(rt, &mut tree, &mut steps);
+    drop(tree);
+    drop(copy);
 }
 
 #[test]
@@ -202,6 +204,7 @@ fn reaching<L: Ledger>(rt: &impl Abort, alloc: Global, blank: Blank)
     for (goal, pieces) in [(0, Some(0)), (3, Some(1)), (4, Some(3)), (8, None)] {
         assert!(rt; first_reaching(&tree, goal, &mut steps) == pieces);
     }
+    drop(tree);
 }
 
 #[test]
@@ -241,6 +244,7 @@ fn thousand<L: Ledger>(rt: &impl Abort, alloc: Global, blank: Blank)
     let mut tree = Tree::new(alloc);
     fill(rt, &mut tree, &mut steps);
     assert!(rt; tree.measure(0, 3, &mut steps).sum() == 2994);
+    drop(tree);
 }
 
 #[test]

@@ -232,6 +232,6 @@ fn let_go_if_spent(timelines: &mut Vec<NamedTimeline>, index: usize)
     ensures same { IfSome (slice_get timelines.old.items index) IsUnspent → timelines.new.items ≡ timelines.old.items }
 {
     if timelines[index].spent() {
-        timelines.remove(index);
+        drop(timelines.remove(index));
     }
 }
