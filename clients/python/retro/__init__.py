@@ -9,6 +9,7 @@ from .asynchronous import AsyncRetro
 from .asynchronous_kinds import AsyncDeque, AsyncDict, AsyncPriorityQueue, AsyncQueue, AsyncStack
 from .asynchronous_timeline import AsyncTimeline
 from .checking import Verdict, check, times_of
+from .conversation import Answered
 from .dates import date_of, time_of
 from .errors import Ended, OutOfStep, OutOfTurn, Refused, RetroError, TimedOut
 from .events import Names, Script, Unreadable, arrive, script_of, table_of
@@ -20,13 +21,15 @@ from .journal_file import Busy, Differs, Full, JournalError, NoJournal, Unwritte
 from .kinds import Deque, Dict, PriorityQueue, Queue, Stack
 from .lineage import Edited, Lineage, same_rows
 from .merging import Merged, lines_anew, load_as_pqf, merge
+from .part import divide
 from .picture import svg
+from .pool import answer_divided
 from .process import Retro
 from .rows import Lifetime, Row, Saved, Table, Unperformed, entries, lifetimes
 from .sources import Source, read_source
 from .tables import Event, KeyAgain, RefusedEvent, Told, answer_events, answer_table, events_of, part_of, partition
 from .timeline import Timeline
-from .whole import Answered, annotated, answer, answer_divided, divide
+from .whole import annotated, answer
 
 __version__ = "0.2"
 

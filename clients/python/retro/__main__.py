@@ -1,10 +1,14 @@
 """What the client does from a shell."""
 
 import argparse
+import contextlib
 import io
 import os
+import shutil
+import stat
 import sys
-from typing import List, Optional, Sequence
+import tempfile
+from typing import IO, Iterator, List, Optional, Sequence
 
 from . import looking
 from .errors import RetroError
@@ -13,26 +17,28 @@ from .events import words_of as operations_of
 from .files import load_file, recover, write_whole
 from .grammar import lines_of
 from .looking import bytes_at
+from .part import read
 from .picture import svg
+from .pool import answers_to
 from .rows import LAST_TIME
-from .whole import Answered, annotated, answer, answer_divided
+from .whole import annotated, answer
 
 
 def _text(path: str) -> str:
     return bytes_at(path).decode("utf-8")
 
 
-def _status(answered: Answered) -> int:
-    if answered.status > 1:
-        print("the program ended with status %d: the last answers are missing" % answered.status, file=sys.stderr)
-    return answered.status
+def _told(status: int) -> int:
+    if status > 1:
+        print("the program ended with status %d: its last answers are missing" % status, file=sys.stderr)
+    return status
 
 
 def annotate(given: argparse.Namespace) -> int:
     answered = answer(lines_of(bytes_at(given.script)), given.program)
     for line in annotated(answered, given.refused):
         print(line)
-    return _status(answered)
+    return _told(answered.status)
 
 
 def draw(given: argparse.Namespace) -> int:
@@ -57,14 +63,26 @@ def events(given: argparse.Namespace) -> int:
     return 0
 
 
+@contextlib.contextmanager
+def _file_at(path: str) -> Iterator[IO[bytes]]:
+    """A file that can be read at any place: standard input where the path is `-`, and what is no regular file, are copied."""
+    with contextlib.ExitStack() as opened:
+        given: IO[bytes] = sys.stdin.buffer if path == "-" else opened.enter_context(open(path, "rb"))
+        if path == "-" or not stat.S_ISREG(os.fstat(given.fileno()).st_mode):
+            copy = opened.enter_context(tempfile.TemporaryFile())
+            shutil.copyfileobj(given, copy)
+            copy.flush()
+            given = copy
+        yield given
+
+
 def pool(given: argparse.Namespace) -> int:
-    answered = answer_divided(lines_of(bytes_at(given.log)), given.program, given.processes)
-    for reply in answered.replies:
-        for text in reply.answers:
+    with _file_at(given.log) as log, answers_to(log, True, given.program, given.processes) as joined:
+        for span in joined.spans:
+            sys.stdout.write(read(span).decode("latin-1"))
+        for text in joined.rest:
             print(text)
-    for text in answered.rest:
-        print(text)
-    return _status(answered)
+        return _told(joined.status)
 
 
 def recovered(given: argparse.Namespace) -> int:

@@ -9,7 +9,7 @@ import contextlib
 import functools
 import itertools
 import operator
-from typing import Callable, Deque, Dict, Iterator, List, NamedTuple, Optional, Sequence, Tuple, Type, TypeVar, Union
+from typing import Callable, Deque, Dict, Iterable, Iterator, List, NamedTuple, Optional, Sequence, Tuple, Type, TypeVar, Union
 
 from .answers import Edit, Reply, value_of
 from .errors import OutOfStep, RetroError
@@ -41,11 +41,17 @@ def joined(lines: Sequence[Line]) -> bytes:
     try:
         data = ("\n".join(lines) + "\n").encode("utf-8", "surrogateescape")  # type: ignore[arg-type]
     except TypeError:
-        data = b"\n".join(map(bytes_of, lines)) + b"\n"
+        data = b"\n".join(line if type(line) is bytes else bytes_of(line) for line in lines) + b"\n"
     if data.count(b"\n") != len(lines):
         for line in lines:
             bytes_of(line)
     return data
+
+
+def replies_of(first: int, lines: Sequence[bytes], answers: Iterable[Tuple[str, ...]]) -> Iterator[Reply]:
+    """Lines from the number `first` on with their answers, each of which speaks of its own line."""
+    numbers = list(range(first, first + len(lines)))
+    return map(_reply, zip(numbers, numbers, lines, answers))
 
 
 class Sent:
@@ -76,8 +82,7 @@ class Sent:
         if self.plain is None:
             return iter(self.made)
         first, answers = self.plain
-        numbers = list(range(first, first + len(answers)))
-        return map(_reply, zip(numbers, numbers, self.lines, zip(answers)))
+        return replies_of(first, self.lines, zip(answers))
 
     def last(self) -> Reply:
         """The last line with its answers."""
@@ -108,6 +113,17 @@ class _Standing(NamedTuple):
     place: int
     needed: int  # lines that have to be there before it is worth looking
     is_plain: bool  # whether the lines have an answer each
+
+
+class Answered(NamedTuple):
+    """The lines of a script with their answers, what stands behind the last one, and the status of the program.
+
+    Where `status` is over 1 the program ended before its input did, and the last lines of `replies` are missing.
+    """
+
+    replies: List[Reply]
+    rest: List[str]
+    status: int
 
 
 class Conversation:
@@ -312,6 +328,17 @@ class Conversation:
             reply = self.unheard.popleft()
             for listener in self.listeners:
                 listener(reply)
+
+
+def pair(sent: Sequence[bytes], written: bytes, status: int) -> Answered:
+    """Gives each line of a script its answers among all that was written."""
+    talk = Conversation()
+    lines = Sent(list(sent), b"\n".join(sent) + b"\n")
+    if sent:
+        talk.owed.append(lines)
+    talk.chunks.append(written)
+    rest = talk.rest()
+    return Answered(list(lines.replies()), [] if talk.owed else rest, status)
 
 
 def _to_the_end(answers: Sequence[str], at: int, there: int) -> int:

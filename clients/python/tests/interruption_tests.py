@@ -356,8 +356,10 @@ class Processes(unittest.TestCase):
 
     def test_the_interrupt_of_a_terminal(self):
         """A terminal sends the signal to all processes of its group: the client is interrupted, and the timelines live on."""
+        # The client takes the signal as a script in the foreground does, also where these tests run in the background.
         script = (
-            "from retro import Retro\nimport time\nwith Retro() as retro:\n    jobs = retro.new('jobs', 'queue')\n    jobs.enq(5, at=1)\n"
+            "from retro import Retro\nimport signal, time\nsignal.signal(signal.SIGINT, signal.default_int_handler)\n"
+            "with Retro() as retro:\n    jobs = retro.new('jobs', 'queue')\n    jobs.enq(5, at=1)\n"
             "    try:\n        print('ready', flush=True)\n        time.sleep(20)\n    except KeyboardInterrupt:\n        print(jobs.all(), flush=True)\n"
         )
         client = subprocess.Popen([sys.executable, "-c", script], stdout=subprocess.PIPE, encoding="ascii", start_new_session=True)

@@ -18,7 +18,7 @@ LIMIT = 600  # seconds that a test may take; then the run ends, and says where t
 MODULES = (
     "grammar_tests", "batches_tests", "conversation_tests", "rows_tests", "events_tests", "picture_tests", "command_tests", "typing_tests",
     "interruption_tests", "asynchronous_tests", "drawn", "example_tests", "explain_tests", "checking_tests", "looking_tests", "journal_tests",
-    "table_tests", "page_tests", "cluster_tests",
+    "table_tests", "page_tests", "cluster_tests", "pool_tests",
 )
 
 
