@@ -1,6 +1,8 @@
 """The file of a journal: its entries, its heading, its lock, and what can be wrong with it."""
 
+import collections
 import contextlib
+import itertools
 import os
 import time
 import weakref
@@ -131,13 +133,14 @@ def kept(reply: Reply) -> bytes:
 class JournalFile:
     """The file of a journal, open and locked for its one writer; it is let go where this is dropped, and in a process that is forked off.
 
-    While it is written anew there are two. Whatever stops that, `settle` keeps the one that stands at the path.
+    While it is written anew there are two. Whatever stops that, `settle` keeps the one that stands at the path. A file is open in `_files` or not
+    at all, wherever a call is interrupted: one that nobody knows of would stay locked as long as the process lives.
     """
 
     def __init__(self, path: str) -> None:
         self.path = path
         self._files: List[int] = []
-        self._closing = weakref.finalize(self, _close, self._files)
+        weakref.finalize(self, _close, self._files)
         _open.add(self)
         _locked(path, self._files)
 
@@ -147,8 +150,8 @@ class JournalFile:
         return bool(self._files)
 
     def read(self, start: int = 0) -> IO[bytes]:
-        """What stands in it from a byte on, to be closed by the caller."""
-        file = open(os.dup(self._files[0]), "rb")
+        """What stands in it from a byte on, until it is closed or read anew."""
+        file = open(self._files[0], "rb", closefd=False)
         file.seek(start)
         return file
 
@@ -184,19 +187,19 @@ class JournalFile:
             else:
                 with contextlib.suppress(FileNotFoundError):
                     os.unlink(self.path + ".new")
-            os.close(self._files.pop())
+            _close(self._files, 1)
 
     def close(self) -> None:
         """Lets it go, for another writer to open. A second call does no more."""
-        self._closing()
+        _close(self._files)
 
 
 _open: "weakref.WeakSet[JournalFile]" = weakref.WeakSet()
 
 
-def _close(files: List[int]) -> None:
-    while files:
-        os.close(files.pop())
+def _close(files: List[int], kept: int = 0) -> None:
+    """Closes all but the first few, each in one step of the interpreter with its leaving the list."""
+    collections.deque(map(os.close, map(files.pop, itertools.repeat(-1, len(files) - kept))), 0)
 
 
 def _leave() -> None:

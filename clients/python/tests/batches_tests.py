@@ -1,13 +1,13 @@
 """Batches of lines, counted by one search or line by line, beside a second reading of the language: no process is needed."""
 
 import random
-import sys
 import unittest
 
 import second_bench
 from retro.conversation import Conversation, joined
 from retro.grammar import Reader, State, plain, reader_of
 from retro.rows import Row, Saved, Table
+from stopping import stopped
 
 PLAIN = [b"p at %d ins 4", b"p at %d ins 4", b"q at %d enq 7", b"p ask at %d all", b"q ask size", b"p at %d delmin", b"p delete #%d", b"q at %d pop", b"p  at %d  ins 3 "]
 RARE = [
@@ -46,35 +46,6 @@ def in_batches(draws, script, written):
         assert one.is_done, one.lines
         told += one.replies()
     return [(reply.line, reply.answers) for reply in told], [reply.number for reply in told], talk.rest()
-
-
-class Stop(Exception):
-    pass
-
-
-def stopped(steps, action):
-    """Does something, and stops it before the line of the library that comes after so many; whether it was stopped."""
-    left = steps
-
-    def trace(frame, event, argument):
-        nonlocal left
-        if "retro" not in frame.f_code.co_filename:
-            return None
-        if event == "line":
-            left -= 1
-            if left < 0:
-                raise Stop
-        return trace
-
-    before = sys.gettrace()
-    sys.settrace(trace)
-    try:
-        action()
-    except Stop:
-        return True
-    finally:
-        sys.settrace(before)
-    return False
 
 
 class Stopped(unittest.TestCase):

@@ -19,8 +19,9 @@ import unittest
 from unittest import mock
 
 from retro import Busy, Differs, Edit, Ended, Full, Journal, NoJournal, Refused, TimedOut, Unwritten
-from retro.journal_file import HEADING, entries_of
+from retro.journal_file import HEADING, JournalFile, entries_of
 from retro.journal_file import write as write_all
+from stopping import stopped
 
 PROGRAM = os.environ["RETRO"]
 KILLS = int(os.environ.get("KILLS", "100"))
@@ -306,6 +307,42 @@ class Refusals(Journals):
         retro.timeout = 0.1
         self.assertRaises(TimedOut, retro.end)
         Journal(self.path, PROGRAM).end()
+
+    def test_no_file_stays_open_wherever_a_call_is_stopped(self):
+        """Before every single step of the interpreter: whoever closes it then, or drops it, has let go all that it had open."""
+
+        def begin(files):
+            files.append(JournalFile(self.path))
+
+        def read(files):
+            with files[0].read(3) as there:
+                there.read()
+
+        def write_anew(files):
+            try:
+                files[0].replace(HEADING)
+            finally:
+                files[0].settle()
+
+        def close(files):
+            files[0].close()
+
+        def lowest():
+            free = os.dup(0)
+            os.close(free)
+            return free
+
+        free = lowest()
+        for call in (begin, close, read, write_anew):
+            steps, goes_on = 0, True
+            while goes_on:
+                files = [] if call is begin else [JournalFile(self.path)]
+                goes_on = stopped(steps, lambda: call(files), "opcode")
+                for file in files:
+                    file.close()
+                self.assertEqual(lowest(), free, (call, steps))
+                steps += 1
+            self.assertGreater(steps, 10)
 
     def test_a_fork_does_not_keep_it(self):
         retro = Journal(self.path, PROGRAM)
