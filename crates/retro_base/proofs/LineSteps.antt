@@ -7,16 +7,16 @@ use Rattle.retro_base.specs.declared.question.Question.{Question}
 use Rattle.retro_base.specs.declared.question.Question.TheVariants.{Front, Back, Top, Left, Right}
 use Rattle.retro_base.specs.State.{items, perform}
 use Rattle.retro_base.specs.Answers.{answer_of, number_of, last_of}
-use Rattle.retro_base.specs.lemmas.CountedLines.{first_out}
+use Rattle.retro_base.specs.lemmas.CountedSizes.{first_out}
 
 module _ (op : Op) (number : ℕ) (xs : List ℤ) where
   -- the operations that take the first item
   pub first_taken_by : (ys : List ℤ) → (op ≡ Deq) ⊎ ((op ≡ Pop) ⊎ (op ≡ PopL)) → IsSome (perform op number (items xs)) → ys ≡ drop 1 xs
       → perform op number (items xs) ≡ Some (items ys)
   unfolding perform
-  first_taken_by ys (inl e) some rest = rw e (first_out xs ys (rw e at some) rest)
-  first_taken_by ys (inr (inl e)) some rest = rw e (first_out xs ys (rw e at some) rest)
-  first_taken_by ys (inr (inr e)) some rest = rw e (first_out xs ys (rw e at some) rest)
+  first_taken_by ys (inl e) some rest = rw e (first_out items xs ys (rw e at some) rest)
+  first_taken_by ys (inr (inl e)) some rest = rw e (first_out items xs ys (rw e at some) rest)
+  first_taken_by ys (inr (inr e)) some rest = rw e (first_out items xs ys (rw e at some) rest)
 
   -- the operations of other kinds cannot be performed
   pub no_operation_of_a_line : ((k : ℤ) × (v : ℤ) × (op ≡ Put k v)) ⊎ (((k : ℤ) × (op ≡ Del k)) ⊎ (((k : ℤ) × (op ≡ Ins k)) ⊎ (op ≡ DelMin)))

@@ -1,5 +1,5 @@
 -- A row that is put in where its time fits keeps the times from falling, and so does a row that is taken out; and where a time fits.
-use Rattle.std.proofs.Common.{◌≡◌, ◌≢◌, ℕ, zero, suc, ◌+◌, ◌<◌, ◌≤◌, true, false, cond, List, [], ◌∷◌, slice_get, refl, sym, ◌∙◌, ap, arith, Some}
+use Rattle.std.proofs.Common.{◌≡◌, ◌≢◌, ℕ, zero, suc, ◌+◌, ◌<◌, ◌≤◌, true, false, cond, List, [], ◌∷◌, ◌++◌, slice_get, refl, sym, ◌∙◌, ap, arith, Some}
 use Rattle.std.specs.List.{insert, remove, AllByRecursion}
 use Rattle.std.proofs.Math.Dec.{leb}
 use Rattle.std.proofs.lemmas.Bool.{leb-true, leb-false, lt-leb}
@@ -26,6 +26,15 @@ all_without P [] zero all = tt
 all_without P [] (suc place) all = tt
 all_without P (x ∷ xs) zero all = all.1
 all_without P (x ∷ xs) (suc place) all = (all.0, all_without P xs place all.1)
+
+-- what holds of all elements of two lists holds of those of both together, and the other way round
+pub all_joined : {X : Type 0} (P : X → Type 0) (xs ys : List X) → AllByRecursion P xs → AllByRecursion P ys → AllByRecursion P (xs ++ ys)
+all_joined P [] ys first second = second
+all_joined P (x ∷ xs) ys first second = (first.0, all_joined P xs ys first.1 second)
+
+pub all_parts : {X : Type 0} (P : X → Type 0) (xs ys : List X) → AllByRecursion P (xs ++ ys) → AllByRecursion P xs × AllByRecursion P ys
+all_parts P [] ys all = (tt, all)
+all_parts P (x ∷ xs) ys all = let rest = all_parts P xs ys all.1 in ((all.0, rest.0), rest.1)
 
 -- what holds of all elements holds of each
 pub all_at : {X : Type 0} (P : X → Type 0) (xs : List X) (index : ℕ) (x : X) → AllByRecursion P xs → slice_get xs index ≡ Some x → P x

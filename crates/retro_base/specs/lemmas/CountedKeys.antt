@@ -8,16 +8,17 @@ use Rattle.std.specs.Result.{result_err}
 use Rattle.retro_base.specs.declared.counting.Quantity.TheVariants.{Key}
 use Rattle.retro_base.specs.declared.kind.Kind.TheVariants.{Dict}
 use Rattle.retro_base.specs.declared.op.Op.{Op}
-use Rattle.retro_base.specs.declared.op.Op.TheVariants.{Enq, Deq, Push, Pop, PushL, PushR, PopL, PopR, Put, Del, Ins, DelMin}
+use Rattle.retro_base.specs.declared.op.Op.TheVariants.{Put, Del}
 use Rattle.retro_base.specs.declared.row.Row.{Row}
 use Rattle.retro_base.specs.Kind.{kind_of}
 use Rattle.retro_base.specs.State.{State, pairs, perform, step, with_key}
 use Rattle.retro_base.specs.Replay.{one_later, fold_rows, run}
 use Rattle.retro_base.specs.Timeline.{AreOfKind}
 use Rattle.retro_base.specs.Counting.{one_fewer, pair_after, quantity_of, quantity_after, counted}
-use Rattle.retro_base.specs.lemmas.Folds.{not_both, ok_same, fold_rows-nil, fold_rows-some, fold_rows-none}
+use Rattle.retro_base.specs.lemmas.Folds.{not_both, ok_same, fold_rows-nil, fold_rows-some, fold_rows-none, fold_rows-append, front_possible, after_possible, between_goes, still_none}
 use Rattle.retro_base.specs.lemmas.SortedPairs.{AreSorted, has, same_key, same_as_itself, sorted_with, has_with, sorted_without, others_stay, is_gone}
-use Rattle.retro_base.specs.Outcomes.{earlier_none, later_none, later_ok}
+use Rattle.retro_base.specs.Facts.{some_is_not_none}
+use Rattle.retro_base.specs.Outcomes.{earlier_none, later_none, is_ok, later_ok}
 
 -- how many pairs of a key there are: 1 or none
 abbrev pub pair_count : ℤ → List (ℤ × ℤ) → ℕ
@@ -82,37 +83,14 @@ del_stops k ps false there e = (k, refl, rw (same_as_itself k, there) refl)
 
 goes : (op : Op) (number : ℕ) (ps : List (ℤ × ℤ)) (state : State) → kind_of op ≡ Dict → AreSorted ps → perform op number (pairs ps) ≡ Some state → Goes op ps state
 unfolding perform
-goes (Enq v) n ps state h sorted e = absurd (cc)
-goes Deq n ps state h sorted e = absurd (cc)
-goes (Push v) n ps state h sorted e = absurd (cc)
-goes Pop n ps state h sorted e = absurd (cc)
-goes (PushL v) n ps state h sorted e = absurd (cc)
-goes (PushR v) n ps state h sorted e = absurd (cc)
-goes PopL n ps state h sorted e = absurd (cc)
-goes PopR n ps state h sorted e = absurd (cc)
 goes (Put k v) n ps state h sorted e = put_goes k v ps state sorted e
 goes (Del k) n ps state h sorted e = del_goes k ps state (has k ps) sorted refl e
-goes (Ins k) n ps state h sorted e = absurd (cc)
-goes DelMin n ps state h sorted e = absurd (cc)
+goes op n ps state h sorted e = absurd (cc)
 
 stops : (op : Op) (number : ℕ) (ps : List (ℤ × ℤ)) → kind_of op ≡ Dict → perform op number (pairs ps) ≡ None → Stops op ps
 unfolding perform
-stops (Enq v) n ps h e = absurd (cc)
-stops Deq n ps h e = absurd (cc)
-stops (Push v) n ps h e = absurd (cc)
-stops Pop n ps h e = absurd (cc)
-stops (PushL v) n ps h e = absurd (cc)
-stops (PushR v) n ps h e = absurd (cc)
-stops PopL n ps h e = absurd (cc)
-stops PopR n ps h e = absurd (cc)
-stops (Put k v) n ps h e = absurd (cc)
 stops (Del k) n ps h e = del_stops k ps (has k ps) refl e
-stops (Ins k) n ps h e = absurd (cc)
-stops DelMin n ps h e = absurd (cc)
-
--- an outcome is no failure and one
-clash : {n : ℕ} (o : Option ℕ) → o ≡ Some n → o ≡ None → ⊥
-clash o e f = cc
+stops op n ps h e = absurd (cc)
 
 same_later : {S T : Type 0} (r : Result S ℕ) (q : Result T ℕ) → result_err r ≡ result_err q → result_err (one_later r) ≡ result_err (one_later q)
 same_later (Ok s) (Ok t) e = refl
@@ -129,7 +107,7 @@ pub all_keys : (rows : List Row) (ps : List (ℤ × ℤ)) → AreOfKind Dict row
 all_keys [] ps all sorted valid q = ap result_err (fold_rows-nil (keyed q) (pair_count q ps))
 all_keys (row ∷ rows) ps all sorted valid q =
     elim (step row (pairs ps)) as (λ o. step row (pairs ps) ≡ o → result_err (counted (Key q) (row ∷ rows) (pair_count q ps)) ≡ None) [
-      | None ↦ λ at. absurd (clash _ (ap result_err (fold_rows-none step row rows (pairs ps) at)) (valid))
+      | None ↦ λ at. absurd (some_is_not_none (sym (ap result_err (fold_rows-none step row rows (pairs ps) at)) ∙ valid))
       | Some t ↦ λ at.
           let to = goes row.op row.number ps t all.0 sorted at in
           let rest : result_err (run rows (pairs to.0)) ≡ None =
@@ -150,7 +128,7 @@ one_key key (row ∷ rows) ps all sorted others =
           let fails : counted (Key no.0) (row ∷ rows) (pair_count no.0 ps) ≡ Err 0 = fold_rows-none (keyed no.0) row rows (pair_count no.0 ps) no.2 in
           elim (int_eq no.0 key) as (λ b. int_eq no.0 key ≡ b → result_err (run (row ∷ rows) (pairs ps)) ≡ result_err (counted (Key key) (row ∷ rows) (pair_count key ps))) [
             | true ↦ λ same. ap result_err (fold_rows-none step row rows (pairs ps) at) ∙ sym (ap result_err (rw (same_key no.0 key same) at fails))
-            | false ↦ λ apart. absurd (clash _ (ap result_err fails) (others no.0 apart))
+            | false ↦ λ apart. absurd (some_is_not_none (sym (ap result_err fails) ∙ others no.0 apart))
           ] refl
       | Some t ↦ λ at.
           let to = goes row.op row.number ps t all.0 sorted at in
@@ -165,43 +143,27 @@ one_key key (row ∷ rows) ps all sorted others =
 module _ (next_of : Row → ℕ → Option ℕ) (row : Row) (passes : (n : ℕ) → next_of row n ≡ Some n) where
   pub passed_in : (before after : List Row) (n : ℕ) → result_err (fold_rows next_of (before ++ after) n) ≡ None
       → result_err (fold_rows next_of (before ++ row ∷ after) n) ≡ None
-  passed_in [] after n e = ap result_err (fold_rows-some next_of row after n n (passes n)) ∙ later_none _ e
-  passed_in (first ∷ before) after n e =
-      elim (next_of first n) as (λ o. next_of first n ≡ o → result_err (fold_rows next_of (first ∷ (before ++ row ∷ after)) n) ≡ None) [
-        | None ↦ λ at. absurd (clash _ (ap result_err (fold_rows-none next_of first (before ++ after) n at)) (e))
-        | Some m ↦ λ at.
-            ap result_err (fold_rows-some next_of first (before ++ row ∷ after) n m at)
-            ∙ later_none _ (passed_in before after m (earlier_none _ (sym (ap result_err (fold_rows-some next_of first (before ++ after) n m at)) ∙ e)))
-      ] refl
+  passed_in before after n e =
+      let front = is_ok (fold_rows next_of before n) (front_possible next_of before after n e) in
+      ap result_err (between_goes next_of before after row n front.0 front.0 front.1 (passes front.0))
+      ∙ still_none (length before + 1) _ (after_possible next_of before after n front.0 front.1 e)
 
   pub passed_out : (before after : List Row) (n : ℕ) → result_err (fold_rows next_of (before ++ row ∷ after) n) ≡ None
       → result_err (fold_rows next_of (before ++ after) n) ≡ None
-  passed_out [] after n e = earlier_none _ (sym (ap result_err (fold_rows-some next_of row after n n (passes n))) ∙ e)
-  passed_out (first ∷ before) after n e =
-      elim (next_of first n) as (λ o. next_of first n ≡ o → result_err (fold_rows next_of (first ∷ (before ++ after)) n) ≡ None) [
-        | None ↦ λ at. absurd (clash _ (ap result_err (fold_rows-none next_of first (before ++ row ∷ after) n at)) (e))
-        | Some m ↦ λ at.
-            ap result_err (fold_rows-some next_of first (before ++ after) n m at)
-            ∙ later_none _ (passed_out before after m (earlier_none _ (sym (ap result_err (fold_rows-some next_of first (before ++ row ∷ after) n m at)) ∙ e)))
-      ] refl
+  passed_out before after n e =
+      let front = is_ok (fold_rows next_of before n) (front_possible next_of before (row ∷ after) n e) in
+      let rest = after_possible next_of before (row ∷ after) n front.0 front.1 e in
+      ap result_err (fold_rows-append next_of before after n front.0 front.1)
+      ∙ still_none (length before) _ (earlier_none _ (sym (ap result_err (fold_rows-some next_of row after front.0 front.0 (passes front.0))) ∙ rest))
 
 -- an operation of a dictionary has a key, and leaves the pairs of other keys as they are
 abbrev Keyed : Op → Type 0
 Keyed op = (key : ℤ) × (quantity_of op ≡ Key key) × ((q : ℤ) (n : ℕ) → int_eq q key ≡ false → pair_after q op n ≡ Some n)
 
 pub key_of_row : (op : Op) → kind_of op ≡ Dict → Keyed op
-key_of_row (Enq v) h = absurd (cc)
-key_of_row Deq h = absurd (cc)
-key_of_row (Push v) h = absurd (cc)
-key_of_row Pop h = absurd (cc)
-key_of_row (PushL v) h = absurd (cc)
-key_of_row (PushR v) h = absurd (cc)
-key_of_row PopL h = absurd (cc)
-key_of_row PopR h = absurd (cc)
 key_of_row (Put k v) h = (k, refl, λ q n apart. rw apart refl)
 key_of_row (Del k) h = (k, refl, λ q n apart. rw apart refl)
-key_of_row (Ins k) h = absurd (cc)
-key_of_row DelMin h = absurd (cc)
+key_of_row op h = absurd (cc)
 
 -- each row adds at most one pair
 pub pairs_few : (rows : List Row) (ps : List (ℤ × ℤ)) (state : State) → AreOfKind Dict rows → AreSorted ps → run rows (pairs ps) ≡ Ok state

@@ -1,30 +1,26 @@
 -- Entries in their order: where one more has its place, and what the operations and questions come to.
-use Rattle.std.proofs.Common.{◌≡◌, ◌≢◌, ℕ, ℤ, zero, suc, ◌<◌, ◌≤◌, Bool, true, false, cond, List, [], ◌∷◌, length, drop, IsSome, inl, inr, refl, sym, ◌∙◌, ap, arith, Option, Some, None}
+use Rattle.std.proofs.Common.{◌≡◌, ◌≢◌, ℕ, ℤ, zero, suc, ◌<◌, ◌≤◌, Bool, true, false, cond, List, [], ◌∷◌, length, IsSome, inl, inr, refl, sym, ◌∙◌, ap, arith, Option, Some, None}
 use Rattle.std.specs.Prelude.{slice_index_or, ◌||◌, ◌==◌, not, is_some}
 use Rattle.std.proofs.lemmas.Bool.{ne_eqb}
 use Rattle.std.specs.List.{AllByRecursion, AllWithin, insert, slice_get}
 use Rattle.std.specs.List.Sorted.{IsPartitionedBy}
-use Rattle.std.specs.Option.{option_map}
 use Rattle.retro_base.specs.declared.op.Op.{Op}
-use Rattle.retro_base.specs.declared.op.Op.TheVariants.{Enq, Deq, Push, Pop, PushL, PushR, PopL, PopR, Put, Del, Ins, DelMin}
+use Rattle.retro_base.specs.declared.op.Op.TheVariants.{Ins, DelMin}
 use Rattle.retro_base.specs.declared.question.Question.{Question}
-use Rattle.retro_base.specs.declared.question.Question.TheVariants.{Size, Front, Back, Top, Left, Right, Min, Nth, Get, Succ, Pred, Count, Sum}
+use Rattle.retro_base.specs.declared.question.Question.TheVariants.{Size, Min, Nth}
 use Rattle.retro_base.specs.declared.question.Answer.TheVariants.{Nothing}
 use Rattle.retro_base.specs.declared.row.Entry.{Entry}
 use Rattle.retro_base.specs.Answers.{answer_of}
 use Rattle.retro_base.specs.Bridges.{is_among, same_entry}
 use Rattle.retro_base.specs.EntriesInOrder.{AreInOrder}
-use Rattle.retro_base.specs.State.{entries, perform, comes_before, with_entry, without_first}
+use Rattle.retro_base.specs.State.{entries, perform, comes_before, with_entry}
 use Rattle.retro_base.specs.OrderLaws.{all_weaker}
 use Rattle.retro_base.specs.lemmas.bridges.EntryOrder.{before_irreflexive, before_transitive, before_one_way, before_or_after, same_or_other, same_entry-refl, not_same}
-use Rattle.retro_base.specs.lemmas.bridges.Entries.{with_first, with_later}
+use Rattle.retro_base.specs.lemmas.bridges.Entries.{with_first, with_later, not_before}
 
 -- what does not come before an entry does not come before a lesser one
 pub after_lesser : (y x e : Entry) → comes_before y x ≡ false → comes_before e x ≡ true → comes_before y e ≡ false
-after_lesser y x e after lesser = elim (comes_before y e) as (λ b. comes_before y e ≡ b → b ≡ false) [
-  | true ↦ λ before. sym (before_transitive y e x before lesser) ∙ after
-  | false ↦ λ no. refl
-] refl
+after_lesser y x e after lesser = not_before e y x lesser after
 
 -- what stands in front of an entry that comes before another one comes before it too
 front_before : (y x e : Entry) → comes_before y x ≡ false → comes_before y e ≡ true → comes_before x e ≡ true
@@ -114,48 +110,21 @@ in_order_with e (x ∷ xs) order = elim (comes_before e x) as (λ b. comes_befor
   | false ↦ λ later. (all_with_entry (λ y. comes_before y x ≡ false) e xs later order.0, in_order_with e xs order.1)
 ] refl
 
-pub in_order_without : (xs ys : List Entry) → ys ≡ drop 1 xs → AreInOrder xs → AreInOrder ys
-in_order_without [] ys e order = rw e tt
-in_order_without (x ∷ xs) ys e order = rw e order.1
-
--- taking the least entry leaves the others
-pub least_out : (xs ys : List Entry) → IsSome (option_map entries (without_first xs)) → ys ≡ drop 1 xs → option_map entries (without_first xs) ≡ Some (entries ys)
-least_out [] ys some e = absurd (cc)
-least_out (x ∷ xs) ys some e = ap (λ zs. Some (entries zs)) (sym e)
-
 -- nothing else can be performed
 pub no_operation_of_entries : (op : Op) (number : ℕ) (es : List Entry) → IsSome (perform op number (entries es)) → ((k : ℤ) → op ≡ Ins k → ⊥) → (op ≡ DelMin → ⊥) → ⊥
 unfolding perform
-no_operation_of_entries (Enq v) n es some ins del = absurd (cc)
-no_operation_of_entries Deq n es some ins del = absurd (cc)
-no_operation_of_entries (Push v) n es some ins del = absurd (cc)
-no_operation_of_entries Pop n es some ins del = absurd (cc)
-no_operation_of_entries (PushL v) n es some ins del = absurd (cc)
-no_operation_of_entries (PushR v) n es some ins del = absurd (cc)
-no_operation_of_entries PopL n es some ins del = absurd (cc)
-no_operation_of_entries PopR n es some ins del = absurd (cc)
-no_operation_of_entries (Put k v) n es some ins del = absurd (cc)
-no_operation_of_entries (Del k) n es some ins del = absurd (cc)
 no_operation_of_entries (Ins k) n es some ins del = ins k refl
 no_operation_of_entries DelMin n es some ins del = del refl
+no_operation_of_entries op n es some ins del = absurd (cc)
 
 -- no other question is answered
 pub no_other_question : (question : Question) (es : List Entry) → (question ≡ Size → ⊥) → (question ≡ Min → ⊥) → ((n : ℕ) → question ≡ Nth n → ⊥)
     → answer_of (entries es) question ≡ Nothing
 unfolding answer_of
 no_other_question Size es size min nth = absurd (size refl)
-no_other_question Front es size min nth = refl
-no_other_question Back es size min nth = refl
-no_other_question Top es size min nth = refl
-no_other_question Left es size min nth = refl
-no_other_question Right es size min nth = refl
 no_other_question Min es size min nth = absurd (min refl)
 no_other_question (Nth n) es size min nth = absurd (nth n refl)
-no_other_question (Get k) es size min nth = refl
-no_other_question (Succ k) es size min nth = refl
-no_other_question (Pred k) es size min nth = refl
-no_other_question (Count l h) es size min nth = refl
-no_other_question (Sum l h) es size min nth = refl
+no_other_question question es size min nth = refl
 
 -- whether a row can be performed on entries
 pub delmin_possible : (op : Op) (number : ℕ) (es : List Entry) → op ≡ DelMin → is_some (perform op number (entries es)) ≡ not (length es == 0)

@@ -75,50 +75,27 @@ module _ {S : Type 0} (next_of : Row → S → Option S) where
   fold_rows-drop_none rows i row s within at stops = fold_rows-drop rows i row s within at ∙ rw stops refl
 
   -- rows in two parts: the second goes on where the first ends
-  append_some : (row : Row) (rows b : List Row) (s u t : S) → next_of row s ≡ Some u
-      → (fold_rows next_of rows u ≡ Ok t → fold_rows next_of (rows ++ b) u ≡ later (length rows) (fold_rows next_of b t))
-      → fold_rows next_of (row ∷ rows) s ≡ Ok t
-      → fold_rows next_of (row ∷ (rows ++ b)) s ≡ later (suc (length rows)) (fold_rows next_of b t)
-  append_some row rows b s u t goes rest e =
-      fold_rows-some row (rows ++ b) s u goes
-      ∙ ap one_later (rest (later_ok _ t (sym (fold_rows-some row rows s u goes) ∙ e)))
-      ∙ one_later-later (length rows) (fold_rows next_of b t)
-
-  append_by : (row : Row) (rows b : List Row) (s t : S) (o : Option S) → next_of row s ≡ o
-      → ((u : S) → fold_rows next_of rows u ≡ Ok t → fold_rows next_of (rows ++ b) u ≡ later (length rows) (fold_rows next_of b t))
-      → fold_rows next_of (row ∷ rows) s ≡ Ok t
-      → fold_rows next_of (row ∷ (rows ++ b)) s ≡ later (suc (length rows)) (fold_rows next_of b t)
-  append_by row rows b s t None stops rest e = absurd (not_both _ (fold_rows-none row rows s stops) e)
-  append_by row rows b s t (Some u) goes rest e = append_some row rows b s u t goes (rest u) e
-
   pub fold_rows-append : (a b : List Row) (s t : S) → fold_rows next_of a s ≡ Ok t
       → fold_rows next_of (a ++ b) s ≡ later (length a) (fold_rows next_of b t)
   fold_rows-append [] b s t e = rw (later-zero, ok_same _ (fold_rows-nil s) e) refl
   fold_rows-append (row ∷ rows) b s t e =
-      append_by row rows b s t (next_of row s) refl (λ u h. fold_rows-append rows b u t h) e
-
-  append_err_by : (row : Row) (rows b : List Row) (s : S) (i : ℕ) (o : Option S) → next_of row s ≡ o
-      → ((u : S) (j : ℕ) → fold_rows next_of rows u ≡ Err j → fold_rows next_of (rows ++ b) u ≡ Err j)
-      → fold_rows next_of (row ∷ rows) s ≡ Err i → fold_rows next_of (row ∷ (rows ++ b)) s ≡ Err i
-  append_err_by row rows b s i None stops rest e = fold_rows-none row (rows ++ b) s stops ∙ sym (fold_rows-none row rows s stops) ∙ e
-  append_err_by row rows b s i (Some u) goes rest e =
-      let fails = one_later-err _ i (sym (fold_rows-some row rows s u goes) ∙ e) in
-      fold_rows-some row (rows ++ b) s u goes ∙ ap one_later (rest u fails.0 fails.1) ∙ ap (λ j. Err j) (sym fails.2)
+      elim (next_of row s) as (λ o. next_of row s ≡ o → fold_rows next_of (row ∷ (rows ++ b)) s ≡ later (suc (length rows)) (fold_rows next_of b t)) [
+        | None ↦ λ stops. absurd (not_both _ (fold_rows-none row rows s stops) e)
+        | Some u ↦ λ goes.
+            fold_rows-some row (rows ++ b) s u goes ∙ ap one_later (fold_rows-append rows b u t (later_ok _ t (sym (fold_rows-some row rows s u goes) ∙ e)))
+            ∙ one_later-later (length rows) (fold_rows next_of b t)
+      ] refl
 
   -- where the first part fails, so do both together
   pub fold_rows-append_err : (a b : List Row) (s : S) (i : ℕ) → fold_rows next_of a s ≡ Err i
       → fold_rows next_of (a ++ b) s ≡ Err i
   fold_rows-append_err [] b s i e = absurd (not_both _ e (fold_rows-nil s))
   fold_rows-append_err (row ∷ rows) b s i e =
-      append_err_by row rows b s i (next_of row s) refl (λ u j h. fold_rows-append_err rows b u j h) e
-
-  -- rows that can all be performed can be performed up to any place
-  pub fold_rows-front : (a b : List Row) (s t : S) → fold_rows next_of (a ++ b) s ≡ Ok t
-      → (u : S) × (fold_rows next_of a s ≡ Ok u)
-  fold_rows-front a b s t e =
-      elim (fold_rows next_of a s) as (λ r. fold_rows next_of a s ≡ r → (u : S) × (fold_rows next_of a s ≡ Ok u)) [
-        | Ok u ↦ λ h. (u, h)
-        | Err i ↦ λ h. absurd (not_both _ (fold_rows-append_err a b s i h) e)
+      elim (next_of row s) as (λ o. next_of row s ≡ o → fold_rows next_of (row ∷ (rows ++ b)) s ≡ Err i) [
+        | None ↦ λ stops. fold_rows-none row (rows ++ b) s stops ∙ sym (fold_rows-none row rows s stops) ∙ e
+        | Some u ↦ λ goes.
+            let fails = one_later-err _ i (sym (fold_rows-some row rows s u goes) ∙ e) in
+            fold_rows-some row (rows ++ b) s u goes ∙ ap one_later (fold_rows-append_err rows b u fails.0 fails.1) ∙ ap (λ j. Err j) (sym fails.2)
       ] refl
 
 -- two steps keep pace: both are impossible, or both go on to related states
@@ -136,14 +113,12 @@ Agree R r q = ⊥
 agree_later : {S T : Type 0} (R : S → T → Type 0) (r : Result S ℕ) (q : Result T ℕ) → Agree R r q → Agree R (one_later r) (one_later q)
 agree_later R (Ok s) (Ok t) h = h
 agree_later R (Err i) (Err j) h = ap suc h
-agree_later R (Ok s) (Err j) h = h
-agree_later R (Err i) (Ok t) h = h
+agree_later R r q h = absurd h
 
 pub same_failure : {S T : Type 0} (R : S → T → Type 0) (r : Result S ℕ) (q : Result T ℕ) → Agree R r q → result_err r ≡ result_err q
 same_failure R (Ok s) (Ok t) h = refl
 same_failure R (Err i) (Err j) h = ap (λ k. Some k) h
-same_failure R (Ok s) (Err j) h = absurd h
-same_failure R (Err i) (Ok t) h = absurd h
+same_failure R r q h = absurd h
 
 module _ {S T : Type 0} (R : S → T → Type 0) (P : Row → Type 0) (f : Row → S → Option S) (g : Row → T → Option T)
     (pace : (row : Row) (s : S) (t : T) → P row → R s t → BothOrNeither R (f row s) (g row t)) where
@@ -153,8 +128,7 @@ module _ {S T : Type 0} (R : S → T → Type 0) (P : Row → Type 0) (f : Row �
   agree_by row rows s t None None e h both rest = rw (fold_rows-none f row rows s e, fold_rows-none g row rows t h) refl
   agree_by row rows s t (Some u) (Some v) e h both rest =
       rw (fold_rows-some f row rows s u e, fold_rows-some g row rows t v h) (agree_later R _ _ (rest u v both))
-  agree_by row rows s t None (Some v) e h both rest = absurd both
-  agree_by row rows s t (Some u) None e h both rest = absurd both
+  agree_by row rows s t o p e h both rest = absurd both
 
   -- folds whose steps keep pace have outcomes that agree
   pub folds_agree : (rows : List Row) (s : S) (t : T) → AllByRecursion P rows → R s t → Agree R (fold_rows f rows s) (fold_rows g rows t)
@@ -239,6 +213,15 @@ module _ {S : Type 0} (next_of : Row → S → Option S) (rows : List Row) (row 
         | Some u ↦ λ goes. refl
       ] refl
 
+-- so many places later there is a failure where there is one
+pub still_none : {S : Type 0} (n : ℕ) (r : Result S ℕ) → result_err r ≡ None → result_err (later n r) ≡ None
+still_none n (Ok s) e = refl
+still_none n (Err i) e = absurd (cc)
+
+later_possible : {S : Type 0} (n : ℕ) (r : Result S ℕ) → result_err (later n r) ≡ None → result_err r ≡ None
+later_possible n (Ok s) e = refl
+later_possible n (Err i) e = absurd (cc)
+
 -- Rows in two parts, where all can be performed.
 module _ {S : Type 0} (next_of : Row → S → Option S) (a b : List Row) (s : S) where
   pub front_possible : result_err (fold_rows next_of (a ++ b) s) ≡ None → result_err (fold_rows next_of a s) ≡ None
@@ -247,10 +230,6 @@ module _ {S : Type 0} (next_of : Row → S → Option S) (a b : List Row) (s : S
         | Ok t ↦ λ e. refl
         | Err i ↦ λ e. let wrong : Some i ≡ None = sym (ap result_err (fold_rows-append_err next_of a b s i e)) ∙ valid in absurd (cc)
       ] refl
-
-  later_possible : (n : ℕ) (r : Result S ℕ) → result_err (later n r) ≡ None → result_err r ≡ None
-  later_possible n (Ok t) e = refl
-  later_possible n (Err i) e = absurd (cc)
 
   pub after_possible : (t : S) → fold_rows next_of a s ≡ Ok t → result_err (fold_rows next_of (a ++ b) s) ≡ None → result_err (fold_rows next_of b t) ≡ None
   after_possible t e valid = later_possible (length a) _ (sym (ap result_err (fold_rows-append next_of a b s t e)) ∙ valid)

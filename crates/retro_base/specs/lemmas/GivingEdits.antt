@@ -10,14 +10,16 @@ use Rattle.retro_base.specs.declared.counting.Quantity.{Quantity}
 use Rattle.retro_base.specs.declared.counting.Quantity.TheVariants.{Items, Key}
 use Rattle.retro_base.specs.declared.kind.Kind.{Kind}
 use Rattle.retro_base.specs.declared.op.Op.{Op}
-use Rattle.retro_base.specs.declared.op.Op.TheVariants.{Enq, Deq, Push, Pop, PushL, PushR, PopL, PopR, Put, Del, Ins, DelMin}
+use Rattle.retro_base.specs.declared.op.Op.TheVariants.{Put, Del}
 use Rattle.retro_base.specs.declared.row.Row.{Row}
 use Rattle.retro_base.specs.Kind.{adds, kind_of}
 use Rattle.retro_base.specs.Replay.{IsValid}
 use Rattle.retro_base.specs.Timeline.{AreOfKind}
-use Rattle.retro_base.specs.Counting.{one_fewer, size_after, pair_after, quantity_of, quantity_after, counted}
+use Rattle.retro_base.specs.Counting.{one_fewer, pair_after, quantity_of, quantity_after, counted}
+use Rattle.retro_base.specs.Facts.{some_is_not_none}
+use Rattle.retro_base.specs.lemmas.CountedSizes.{size_by}
 use Rattle.retro_base.specs.lemmas.SortedPairs.{same_as_itself}
-use Rattle.retro_base.specs.lemmas.Folds.{fold_rows-nil, fold_rows-some, fold_rows-none, fold_rows-append, front_possible, after_possible, between_goes, later, ok_same, not_both}
+use Rattle.retro_base.specs.lemmas.Folds.{fold_rows-nil, fold_rows-some, fold_rows-none, fold_rows-append, front_possible, after_possible, between_goes, still_none, ok_same, not_both}
 use Rattle.retro_base.specs.lemmas.Counted.{all_count, around, failure_with, failure_without, of_kind_at}
 use Rattle.retro_base.specs.Outcomes.{earlier_none, later_none, is_ok, later_ok}
 
@@ -40,44 +42,18 @@ taken_so : (b : Bool) (n m : ℕ) → n ≤ m → Reaches (if b then one_fewer n
 taken_so true n m within = fewer n m within
 taken_so false n m within = within
 
-size_reaches : (op : Op) (n m : ℕ) → n ≤ m → Reaches (size_after op n) (size_after op m)
-size_reaches (Enq v) n m within = omega arith
-size_reaches Deq n m within = fewer n m within
-size_reaches (Push v) n m within = omega arith
-size_reaches Pop n m within = fewer n m within
-size_reaches (PushL v) n m within = omega arith
-size_reaches (PushR v) n m within = omega arith
-size_reaches PopL n m within = fewer n m within
-size_reaches PopR n m within = fewer n m within
-size_reaches (Put k v) n m within = omega arith
-size_reaches (Del k) n m within = fewer n m within
-size_reaches (Ins k) n m within = omega arith
-size_reaches DelMin n m within = fewer n m within
+grows_so : (b : Bool) (n m : ℕ) → n ≤ m → Reaches (if b then Some (suc n) else one_fewer n) (if b then Some (suc m) else one_fewer m)
+grows_so true n m within = omega arith
+grows_so false n m within = fewer n m within
 
 pair_reaches : (key : ℤ) (op : Op) (n m : ℕ) → n ≤ m → Reaches (pair_after key op n) (pair_after key op m)
-pair_reaches key (Enq v) n m within = within
-pair_reaches key Deq n m within = within
-pair_reaches key (Push v) n m within = within
-pair_reaches key Pop n m within = within
-pair_reaches key (PushL v) n m within = within
-pair_reaches key (PushR v) n m within = within
-pair_reaches key PopL n m within = within
-pair_reaches key PopR n m within = within
 pair_reaches key (Put k v) n m within = set_so (int_eq key k) n m within
 pair_reaches key (Del k) n m within = taken_so (int_eq key k) n m within
-pair_reaches key (Ins k) n m within = within
-pair_reaches key DelMin n m within = within
+pair_reaches key op n m within = within
 
 quantity_reaches : (quantity : Quantity) (op : Op) (n m : ℕ) → n ≤ m → Reaches (quantity_after quantity op n) (quantity_after quantity op m)
-quantity_reaches Items op n m within = size_reaches op n m within
+quantity_reaches Items op n m within = rw (size_by op n, size_by op m) (grows_so (adds op) n m within)
 quantity_reaches (Key key) op n m within = pair_reaches key op n m within
-
-still_none : {S : Type 0} (n : ℕ) (r : Result S ℕ) → result_err r ≡ None → result_err (later n r) ≡ None
-still_none n (Ok s) e = refl
-still_none n (Err i) e = absurd (cc)
-
-clash : {i : ℕ} (o : Option ℕ) → o ≡ Some i → o ≡ None → ⊥
-clash o e f = cc
 
 no_none : (n : ℕ) (o : Option ℕ) → o ≡ None → Reaches (Some n) o → ⊥
 no_none n None e reaches = reaches
@@ -94,7 +70,7 @@ more_count : (quantity : Quantity) (rows : List Row) (n m : ℕ) → n ≤ m →
 more_count quantity [] n m within valid = ap result_err (fold_rows-nil (counting quantity) m)
 more_count quantity (row ∷ rows) n m within valid =
     elim (quantity_after quantity row.op n) as (λ o. quantity_after quantity row.op n ≡ o → result_err (counted quantity (row ∷ rows) m) ≡ None) [
-      | None ↦ λ stops. absurd (clash _ (ap result_err (fold_rows-none (counting quantity) row rows n stops)) valid)
+      | None ↦ λ stops. absurd (some_is_not_none (sym (ap result_err (fold_rows-none (counting quantity) row rows n stops)) ∙ valid))
       | Some less ↦ λ goes.
           elim (quantity_after quantity row.op m) as (λ o. quantity_after quantity row.op m ≡ o → result_err (counted quantity (row ∷ rows) m) ≡ None) [
             | None ↦ λ stops. absurd (no_none less _ stops (subst (λ q. Reaches q (quantity_after quantity row.op m)) goes (quantity_reaches quantity row.op n m within)))
@@ -114,22 +90,10 @@ one_taken true zero m few e = absurd (cc)
 one_taken true (suc n) m few e = let same : n ≡ m = cc in omega arith
 one_taken false n m few e = let same : n ≡ m = cc in omega arith
 
-stays : (n m : ℕ) → n ≤ 1 → ◌≡◌ {A = Option ℕ} (Some n) (Some m) → m ≤ 1
-stays n m few e = let same : n ≡ m = cc in omega arith
-
 pair_few : (key : ℤ) (op : Op) (n m : ℕ) → n ≤ 1 → pair_after key op n ≡ Some m → m ≤ 1
-pair_few key (Enq v) n m few e = stays n m few e
-pair_few key Deq n m few e = stays n m few e
-pair_few key (Push v) n m few e = stays n m few e
-pair_few key Pop n m few e = stays n m few e
-pair_few key (PushL v) n m few e = stays n m few e
-pair_few key (PushR v) n m few e = stays n m few e
-pair_few key PopL n m few e = stays n m few e
-pair_few key PopR n m few e = stays n m few e
 pair_few key (Put k v) n m few e = at_most_one (int_eq key k) n m few e
 pair_few key (Del k) n m few e = one_taken (int_eq key k) n m few e
-pair_few key (Ins k) n m few e = stays n m few e
-pair_few key DelMin n m few e = stays n m few e
+pair_few key op n m few e = let same : n ≡ m = cc in omega arith
 
 -- a key has one pair at the most
 one_pair : (key : ℤ) (rows : List Row) (n m : ℕ) → n ≤ 1 → counted (Key key) rows n ≡ Ok m → m ≤ 1
@@ -145,18 +109,9 @@ one_pair key (row ∷ rows) n m few e =
 -- a row that adds leaves at least as much as was there
 added_more : (op : Op) (rows : List Row) (n : ℕ) → adds op ≡ true → counted (quantity_of op) rows 0 ≡ Ok n
     → (more : ℕ) × (quantity_after (quantity_of op) op n ≡ Some more) × (n ≤ more)
-added_more (Enq v) rows n adding e = (suc n, refl, omega arith)
-added_more Deq rows n adding e = absurd (cc)
-added_more (Push v) rows n adding e = (suc n, refl, omega arith)
-added_more Pop rows n adding e = absurd (cc)
-added_more (PushL v) rows n adding e = (suc n, refl, omega arith)
-added_more (PushR v) rows n adding e = (suc n, refl, omega arith)
-added_more PopL rows n adding e = absurd (cc)
-added_more PopR rows n adding e = absurd (cc)
 added_more (Put k v) rows n adding e = (1, rw (same_as_itself k) refl, one_pair k rows 0 n (omega arith) e)
 added_more (Del k) rows n adding e = absurd (cc)
-added_more (Ins k) rows n adding e = (suc n, refl, omega arith)
-added_more DelMin rows n adding e = absurd (cc)
+added_more op rows n adding e = (suc n, size_by op n ∙ ap (λ b. if b then Some (suc n) else one_fewer n) adding, omega arith)
 
 less_by : (n m : ℕ) → one_fewer n ≡ Some m → m ≤ n
 less_by zero m e = absurd (cc)
@@ -168,18 +123,9 @@ less_where false n m e = let same : n ≡ m = cc in omega arith
 
 -- a row that takes leaves no more than was there
 taken_less : (op : Op) (n m : ℕ) → adds op ≡ false → quantity_after (quantity_of op) op n ≡ Some m → m ≤ n
-taken_less (Enq v) n m taking e = absurd (cc)
-taken_less Deq n m taking e = less_by n m e
-taken_less (Push v) n m taking e = absurd (cc)
-taken_less Pop n m taking e = less_by n m e
-taken_less (PushL v) n m taking e = absurd (cc)
-taken_less (PushR v) n m taking e = absurd (cc)
-taken_less PopL n m taking e = less_by n m e
-taken_less PopR n m taking e = less_by n m e
 taken_less (Put k v) n m taking e = absurd (cc)
 taken_less (Del k) n m taking e = less_where (int_eq k k) n m e
-taken_less (Ins k) n m taking e = absurd (cc)
-taken_less DelMin n m taking e = less_by n m e
+taken_less op n m taking e = less_by n m (sym (size_by op n ∙ ap (λ b. if b then Some (suc n) else one_fewer n) taking) ∙ e)
 
 -- a row that adds may be put in anywhere
 pub adding_row_replays : (kind : Kind) (rows : List Row) (place : ℕ) (row : Row) → AreOfKind kind rows → IsValid kind rows → kind_of row.op ≡ kind → adds row.op ≡ true
@@ -207,7 +153,7 @@ taking_row_can_go kind rows place row all valid at taking =
     let front = is_ok (counted quantity before 0) (front_possible (counting quantity) before (row ∷ after) 0 whole) in
     let with_row : result_err (counted quantity (row ∷ after) front.0) ≡ None = after_possible (counting quantity) before (row ∷ after) 0 front.0 front.1 whole in
     elim (quantity_after quantity row.op front.0) as (λ o. quantity_after quantity row.op front.0 ≡ o → IsValid kind (remove rows place)) [
-      | None ↦ λ stops. absurd (clash _ (ap result_err (fold_rows-none (counting quantity) row after front.0 stops)) with_row)
+      | None ↦ λ stops. absurd (some_is_not_none (sym (ap result_err (fold_rows-none (counting quantity) row after front.0 stops)) ∙ with_row))
       | Some less ↦ λ goes.
           let rest = more_count quantity after less front.0 (taken_less row.op front.0 less taking goes)
           (earlier_none _ (sym (ap result_err (fold_rows-some (counting quantity) row after front.0 less goes)) ∙ with_row)) in

@@ -3,21 +3,19 @@ use Rattle.std.proofs.Common.{List, [], ◌∷◌, ◌⊎◌, inl, inr, refl, sy
 use Rattle.std.specs.Prelude.{Contains}
 use Rattle.std.specs.List.{AllByRecursion}
 use Rattle.retro_base.specs.declared.row.Entry.{Entry}
+use Rattle.retro_base.specs.OrderLaws.{all_weaker}
 use Rattle.retro_base.specs.lemmas.bridges.Entries.{In, in_or_not, contains_in, in_contains}
 
 -- all of these entries are among the survivors
 abbrev pub AllIn : List Entry → List Entry → Type 0
-AllIn alive [] = Unit {0}
-AllIn alive (x ∷ held) = In x alive × AllIn alive held
+AllIn alive held = AllByRecursion (λ x. In x alive) held
 
 -- as the definition says it
 pub bridge_all : (alive held : List Entry) → AllByRecursion (Contains alive) held → AllIn alive held
-bridge_all alive [] all = tt
-bridge_all alive (x ∷ held) all = (contains_in alive x all.0, bridge_all alive held all.1)
+bridge_all alive held all = all_weaker (Contains alive) (λ x. In x alive) held (contains_in alive) all
 
 pub all_bridge : (alive held : List Entry) → AllIn alive held → AllByRecursion (Contains alive) held
-all_bridge alive [] all = tt
-all_bridge alive (x ∷ held) all = (in_contains alive x all.0, all_bridge alive held all.1)
+all_bridge alive held all = all_weaker (λ x. In x alive) (Contains alive) held (in_contains alive) all
 
 pub all_in : (alive held : List Entry) (x : Entry) → AllIn alive held → In x held → In x alive
 all_in alive [] x all inside = absurd inside

@@ -108,42 +108,28 @@ with_above e [] above = refl
 with_above e (x ∷ xs) above = with_first e x xs above.0
 
 -- what is after a later entry is after an earlier one
-not_before : (a b x : Entry) → comes_before a x ≡ true → comes_before b x ≡ false → comes_before b a ≡ false
+pub not_before : (a b x : Entry) → comes_before a x ≡ true → comes_before b x ≡ false → comes_before b a ≡ false
 not_before a b x first later = elim (comes_before b a) as (λ t. comes_before b a ≡ t → t ≡ false) [
   | true ↦ λ before. sym (before_transitive b a x before first) ∙ later
   | false ↦ λ after. refl
 ] refl
 
--- two more entries can come in either order: both before the first of the others, both after it, or on its two sides
-swapped_before : (a b x : Entry) (xs : List Entry) → a ≢ b → comes_before a x ≡ true → comes_before b x ≡ true
-    → with_entry a (b ∷ x ∷ xs) ≡ with_entry b (a ∷ x ∷ xs)
-swapped_before a b x xs other a_first b_first = elim (comes_before a b) as (λ t. comes_before a b ≡ t → with_entry a (b ∷ x ∷ xs) ≡ with_entry b (a ∷ x ∷ xs)) [
-  | true ↦ λ first. with_first a b (x ∷ xs) first ∙ sym (with_later b a (x ∷ xs) (before_one_way a b first) ∙ ap (λ l. a ∷ l) (with_first b x xs b_first))
-  | false ↦ λ after. with_later a b (x ∷ xs) after ∙ ap (λ l. b ∷ l) (with_first a x xs a_first)
-      ∙ sym (with_first b a (x ∷ xs) (before_or_after a b other after))
+-- two more entries can come in either order: both before the others, both after the first of them, or on its two sides
+swapped_first : (a b : Entry) (xs : List Entry) → a ≢ b → with_entry a xs ≡ a ∷ xs → with_entry b xs ≡ b ∷ xs → with_entry a (b ∷ xs) ≡ with_entry b (a ∷ xs)
+swapped_first a b xs other a_first b_first = elim (comes_before a b) as (λ t. comes_before a b ≡ t → with_entry a (b ∷ xs) ≡ with_entry b (a ∷ xs)) [
+  | true ↦ λ first. with_first a b xs first ∙ sym (with_later b a xs (before_one_way a b first) ∙ ap (λ l. a ∷ l) b_first)
+  | false ↦ λ after. with_later a b xs after ∙ ap (λ l. b ∷ l) a_first ∙ sym (with_first b a xs (before_or_after a b other after))
 ] refl
-
-swapped_across : (a b x : Entry) (xs : List Entry) → comes_before a x ≡ true → comes_before b x ≡ false
-    → with_entry a (x ∷ with_entry b xs) ≡ with_entry b (a ∷ x ∷ xs)
-swapped_across a b x xs a_first b_later =
-    with_first a x (with_entry b xs) a_first
-    ∙ sym (with_later b a (x ∷ xs) (not_before a b x a_first b_later) ∙ ap (λ l. a ∷ l) (with_later b x xs b_later))
 
 swapped_by : (a b x : Entry) (xs : List Entry) → a ≢ b → with_entry a (with_entry b xs) ≡ with_entry b (with_entry a xs)
     → (s t : Bool) → comes_before a x ≡ s → comes_before b x ≡ t → with_entry a (with_entry b (x ∷ xs)) ≡ with_entry b (with_entry a (x ∷ xs))
 swapped_by a b x xs other rest true true a_first b_first =
-    ap (with_entry a) (with_first b x xs b_first) ∙ swapped_before a b x xs other a_first b_first ∙ sym (ap (with_entry b) (with_first a x xs a_first))
-swapped_by a b x xs other rest true false a_first b_later =
-    ap (with_entry a) (with_later b x xs b_later) ∙ swapped_across a b x xs a_first b_later ∙ sym (ap (with_entry b) (with_first a x xs a_first))
-swapped_by a b x xs other rest false true a_later b_first =
-    ap (with_entry a) (with_first b x xs b_first) ∙ sym (swapped_across b a x xs b_first a_later) ∙ sym (ap (with_entry b) (with_later a x xs a_later))
-swapped_by a b x xs other rest false false a_later b_later =
-    ap (with_entry a) (with_later b x xs b_later) ∙ with_later a x (with_entry b xs) a_later ∙ ap (λ l. x ∷ l) rest
-    ∙ sym (ap (with_entry b) (with_later a x xs a_later) ∙ with_later b x (with_entry a xs) b_later)
+    ap (with_entry a) (with_first b x xs b_first) ∙ swapped_first a b (x ∷ xs) other (with_first a x xs a_first) (with_first b x xs b_first)
+    ∙ sym (ap (with_entry b) (with_first a x xs a_first))
+swapped_by a b x xs other rest true false a_first b_later = simp (a_first, b_later, not_before a b x a_first b_later)
+swapped_by a b x xs other rest false true a_later b_first = simp (a_later, b_first, not_before b a x b_first a_later)
+swapped_by a b x xs other rest false false a_later b_later = simp (a_later, b_later) (ap (λ l. x ∷ l) rest)
 
 pub with_swapped : (a b : Entry) (xs : List Entry) → a ≢ b → with_entry a (with_entry b xs) ≡ with_entry b (with_entry a xs)
-with_swapped a b [] other = elim (comes_before a b) as (λ t. comes_before a b ≡ t → with_entry a (b ∷ []) ≡ with_entry b (a ∷ [])) [
-  | true ↦ λ first. with_first a b [] first ∙ sym (with_later b a [] (before_one_way a b first))
-  | false ↦ λ after. with_later a b [] after ∙ sym (with_first b a [] (before_or_after a b other after))
-] refl
+with_swapped a b [] other = swapped_first a b [] other refl refl
 with_swapped a b (x ∷ xs) other = swapped_by a b x xs other (with_swapped a b xs other) (comes_before a x) (comes_before b x) refl refl

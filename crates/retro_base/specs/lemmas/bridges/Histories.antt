@@ -5,10 +5,10 @@
 use Rattle.std.proofs.Common.{◌≡◌, ℕ, zero, suc, List, [], ◌∷◌, ◌++◌, length, take, drop, map, ◌⊎◌, inl, inr, refl, ap, sym, ◌∙◌, subst, Option, Some, None, Result, Ok, Err}
 use Rattle.std.specs.Option.{option_map}
 use Rattle.std.specs.Result.{result_err, result_unwrap_or}
-use Rattle.std.proofs.lemmas.List.{take-append-drop}
+use Rattle.std.proofs.lemmas.List.{take-append-drop, length-map, map-append}
 use Rattle.retro_base.specs.declared.kind.Kind.TheVariants.{Pq}
 use Rattle.retro_base.specs.declared.op.Op.{Op}
-use Rattle.retro_base.specs.declared.op.Op.TheVariants.{Enq, Deq, Push, Pop, PushL, PushR, PopL, PopR, Put, Del, Ins, DelMin}
+use Rattle.retro_base.specs.declared.op.Op.TheVariants.{Ins, DelMin}
 use Rattle.retro_base.specs.declared.row.Entry.{Entry}
 use Rattle.retro_base.specs.declared.row.Row.{Row}
 use Rattle.retro_base.specs.Kind.{kind_of}
@@ -18,6 +18,7 @@ use Rattle.retro_base.specs.Timeline.{IsFresh, HaveOwnNumbers, AreOfKind}
 use Rattle.retro_base.specs.Bridges.{entries_of, entries_at, survivors}
 use Rattle.retro_base.specs.Weights.{added_as, added_by}
 use Rattle.retro_base.specs.Carried.{IsPqHistory}
+use Rattle.retro_base.specs.OrderLaws.{all_parts}
 use Rattle.retro_base.specs.lemmas.Folds.{fold_rows-nil, fold_rows-some, fold_rows-none}
 use Rattle.retro_base.specs.lemmas.bridges.Moves.{Leads, FailsAt, Adds, AddEachOnce, Ready, leads_parts, one_end, ready_later}
 
@@ -33,18 +34,9 @@ moved None held = without_first held
 performed_as : (op : Op) (number : ℕ) (time : ℕ) (held : List Entry) → kind_of op ≡ Pq
     → perform op number (entries held) ≡ option_map entries (moved (added_by (record { number = number; time = time; op = op })) held)
 unfolding perform
-performed_as (Enq v) number time held of_kind = absurd (cc)
-performed_as Deq number time held of_kind = absurd (cc)
-performed_as (Push v) number time held of_kind = absurd (cc)
-performed_as Pop number time held of_kind = absurd (cc)
-performed_as (PushL v) number time held of_kind = absurd (cc)
-performed_as (PushR v) number time held of_kind = absurd (cc)
-performed_as PopL number time held of_kind = absurd (cc)
-performed_as PopR number time held of_kind = absurd (cc)
-performed_as (Put k v) number time held of_kind = absurd (cc)
-performed_as (Del k) number time held of_kind = absurd (cc)
 performed_as (Ins k) number time held of_kind = refl
 performed_as DelMin number time held of_kind = refl
+performed_as op number time held of_kind = absurd (cc)
 
 -- the outcome of a replay is that of its moves
 abbrev Outcome : List (Option Entry) → List Row → List Entry → Type 0
@@ -128,20 +120,10 @@ pub leads_valid : (rows : List Row) (end : List Entry) → AreOfKind Pq rows →
 leads_valid rows end of_kind leads = ap result_err (leads_run rows [] end of_kind leads)
 
 pub moves_length : (rows : List Row) → length (moves_of rows) ≡ length rows
-moves_length [] = refl
-moves_length (row ∷ rows) = ap suc (moves_length rows)
+moves_length rows = length-map rows added_by
 
 pub moves_append : (a b : List Row) → moves_of (a ++ b) ≡ moves_of a ++ moves_of b
-moves_append [] b = refl
-moves_append (row ∷ a) b = ap (λ l. added_by row ∷ l) (moves_append a b)
-
-kind_front : (a b : List Row) → AreOfKind Pq (a ++ b) → AreOfKind Pq a
-kind_front [] b of_kind = tt
-kind_front (row ∷ a) b of_kind = (of_kind.0, kind_front a b of_kind.1)
-
-kind_back : (a b : List Row) → AreOfKind Pq (a ++ b) → AreOfKind Pq b
-kind_back [] b of_kind = of_kind
-kind_back (row ∷ a) b of_kind = kind_back a b of_kind.1
+moves_append a b = map-append added_by a b
 
 pub some_same : {X : Type 0} {x y : X} (o : Option X) → o ≡ Some x → o ≡ Some y → x ≡ y
 some_same o e f = cc
@@ -151,18 +133,8 @@ none_some o e f = cc
 
 -- the entry that a row adds has its number
 pub added_number : (op : Op) (number : ℕ) (e : Entry) → added_as op number ≡ Some e → e.number ≡ number
-added_number (Enq v) number e same = absurd (none_some _ refl same)
-added_number Deq number e same = absurd (none_some _ refl same)
-added_number (Push v) number e same = absurd (none_some _ refl same)
-added_number Pop number e same = absurd (none_some _ refl same)
-added_number (PushL v) number e same = absurd (none_some _ refl same)
-added_number (PushR v) number e same = absurd (none_some _ refl same)
-added_number PopL number e same = absurd (none_some _ refl same)
-added_number PopR number e same = absurd (none_some _ refl same)
-added_number (Put k v) number e same = absurd (none_some _ refl same)
-added_number (Del k) number e same = absurd (none_some _ refl same)
 added_number (Ins k) number e same = ap (λ (f : Entry). f.number) (some_same _ same refl)
-added_number DelMin number e same = absurd (none_some _ refl same)
+added_number op number e same = absurd (none_some _ refl same)
 
 -- rows that do not have a number add no entry that has it
 pub fresh_adds : (rows : List Row) (number : ℕ) (x : Entry) → IsFresh number rows → x.number ≡ number → ¬ Adds x (moves_of rows)
@@ -199,7 +171,7 @@ history_parts front back history =
     subst (λ l. Leads l [] (survivors (front ++ back))) (moves_append front back) (valid_leads (front ++ back) history.of_kind history.valid) in
     let ready : Ready [] (moves_of front ++ moves_of back) = subst (Ready []) (moves_append front back) (ready_at_start (front ++ back) history.own_numbers) in
     let parts = leads_parts (moves_of front) (moves_of back) [] (survivors (front ++ back)) whole in
-    let same : survivors front ≡ parts.0 = leads_survivors front parts.0 (kind_front front back history.of_kind) parts.1 in
+    let same : survivors front ≡ parts.0 = leads_survivors front parts.0 (all_parts (λ r. kind_of r.op ≡ Pq) front back history.of_kind).0 parts.1 in
     record {
       first = subst (Leads (moves_of front) []) (sym same) parts.1;
       second = subst (λ l. Leads (moves_of back) l (survivors (front ++ back))) (sym same) parts.2;

@@ -44,23 +44,6 @@ pub record Ready (held : List Entry) (moves : List (Option Entry)) : Type 0 wher
 pub new_here : (e : Entry) (moves : List (Option Entry)) (held : List Entry) → Ready held (Some e ∷ moves) → ¬ In e held
 new_here e moves held ready inside = ready.apart e inside (inl refl)
 
-pub ready_added : (e : Entry) (moves : List (Option Entry)) (held : List Entry) → Ready held (Some e ∷ moves) → Ready (with_entry e held) moves
-ready_added e moves held ready = record {
-  rising = rising_with e held ready.rising (new_here e moves held ready);
-  once = ready.once.1;
-  apart = λ x inside adds. elim (in_with e x held inside) [
-    | inl same ↦ ready.once.0 (rw same at adds)
-    | inr there ↦ ready.apart x there (inr adds)
-  ];
-}
-
-pub ready_taken : (x : Entry) (moves : List (Option Entry)) (held : List Entry) → Ready (x ∷ held) (None ∷ moves) → Ready held moves
-ready_taken x moves held ready = record {
-  rising = ready.rising.1;
-  once = ready.once;
-  apart = λ y inside. ready.apart y (inr inside);
-}
-
 -- the same with one entry more that is not added
 pub ready_with : (c : Entry) (moves : List (Option Entry)) (held : List Entry) → Ready held moves → ¬ In c held → ¬ Adds c moves → Ready (with_entry c held) moves
 ready_with c moves held ready absent never = record {
@@ -70,6 +53,20 @@ ready_with c moves held ready absent never = record {
     | inl same ↦ never (subst (λ y. Adds y moves) same added)
     | inr there ↦ ready.apart x there added
   ];
+}
+
+-- the same after a move that adds, with that entry and without it
+pub ready_on : (e : Entry) (moves : List (Option Entry)) (held : List Entry) → Ready held (Some e ∷ moves) → Ready held moves
+ready_on e moves held ready = record { rising = ready.rising; once = ready.once.1; apart = λ x inside added. ready.apart x inside (inr added) }
+
+pub ready_added : (e : Entry) (moves : List (Option Entry)) (held : List Entry) → Ready held (Some e ∷ moves) → Ready (with_entry e held) moves
+ready_added e moves held ready = ready_with e moves held (ready_on e moves held ready) (new_here e moves held ready) ready.once.0
+
+pub ready_taken : (x : Entry) (moves : List (Option Entry)) (held : List Entry) → Ready (x ∷ held) (None ∷ moves) → Ready held moves
+ready_taken x moves held ready = record {
+  rising = ready.rising.1;
+  once = ready.once;
+  apart = λ y inside. ready.apart y (inr inside);
 }
 
 -- moves in two parts
@@ -151,13 +148,9 @@ came_from x (None ∷ moves) (y ∷ held) end leads inside = elim (came_from x m
   | inr added ↦ inr added
 ]
 
--- an entry that is taken is never held again
-pub gone : (x : Entry) (moves : List (Option Entry)) (held end : List Entry) → Leads moves held end → ¬ In x held → ¬ Adds x moves → ¬ In x end
-gone x moves held end leads absent never inside = elim (came_from x moves held end leads inside) [
-  | inl there ↦ absent there
-  | inr added ↦ never added
-]
-
 -- the least entry is taken for good
 pub taken_for_good : (x : Entry) (moves : List (Option Entry)) (held end : List Entry) → Ready (x ∷ held) (None ∷ moves) → Leads moves held end → ¬ In x end
-taken_for_good x moves held end ready leads = gone x moves held end leads (first_once x held ready.rising.0) (ready.apart x (inl refl))
+taken_for_good x moves held end ready leads inside = elim (came_from x moves held end leads inside) [
+  | inl there ↦ first_once x held ready.rising.0 there
+  | inr added ↦ ready.apart x (inl refl) added
+]

@@ -8,7 +8,7 @@ use Rattle.std.proofs.lemmas.Option.{slice_get_within, same_Some}
 use Rattle.std.proofs.Math.Seq.{take-length}
 use Rattle.retro_base.specs.declared.kind.Kind.TheVariants.{Pq}
 use Rattle.retro_base.specs.declared.op.Op.{Op}
-use Rattle.retro_base.specs.declared.op.Op.TheVariants.{Enq, Deq, Push, Pop, PushL, PushR, PopL, PopR, Put, Del, Ins, DelMin}
+use Rattle.retro_base.specs.declared.op.Op.TheVariants.{Ins, DelMin}
 use Rattle.retro_base.specs.declared.row.Entry.{Entry}
 use Rattle.retro_base.specs.declared.row.Row.{Row}
 use Rattle.retro_base.specs.Kind.{kind_of}
@@ -19,28 +19,18 @@ use Rattle.retro_base.specs.Bridges.{survivors, survives, IsBridge, is_bridge, I
 use Rattle.retro_base.specs.Bridges.{Sought, back_from, on_from, nowhere, sought, bridge_found, IsFound, stated_bridge}
 use Rattle.retro_base.specs.Carried.{IsPqEdit}
 use Rattle.retro_base.specs.ChangeLaws.{IsTheStatedBridge}
+use Rattle.retro_base.specs.lemmas.Counted.{of_kind_at}
 use Rattle.retro_base.specs.lemmas.bridges.Entries.{In, in_contains}
 use Rattle.retro_base.specs.lemmas.bridges.Tests.{bridge_passes, passes_bridge}
 
 -- an operation of a priority queue adds an entry, or takes the least one
 pub adds_or_takes : (op : Op) → kind_of op ≡ Pq → ((key : ℤ) × (op ≡ Ins key)) ⊎ (op ≡ DelMin)
-adds_or_takes (Enq v) of_kind = absurd (cc)
-adds_or_takes Deq of_kind = absurd (cc)
-adds_or_takes (Push v) of_kind = absurd (cc)
-adds_or_takes Pop of_kind = absurd (cc)
-adds_or_takes (PushL v) of_kind = absurd (cc)
-adds_or_takes (PushR v) of_kind = absurd (cc)
-adds_or_takes PopL of_kind = absurd (cc)
-adds_or_takes PopR of_kind = absurd (cc)
-adds_or_takes (Put k v) of_kind = absurd (cc)
-adds_or_takes (Del k) of_kind = absurd (cc)
 adds_or_takes (Ins k) of_kind = inl (k, refl)
 adds_or_takes DelMin of_kind = inr refl
+adds_or_takes op of_kind = absurd (cc)
 
 pub kind_there : (rows : List Row) (place : ℕ) (row : Row) → AreOfKind Pq rows → slice_get rows place ≡ Some row → kind_of row.op ≡ Pq
-kind_there [] place row of_kind at = absurd (cc)
-kind_there (r ∷ rows) zero row of_kind at = subst (λ (x : Row). kind_of x.op ≡ Pq) (same_Some r row at) of_kind.0
-kind_there (r ∷ rows) (suc place) row of_kind at = kind_there rows place row of_kind.1 at
+kind_there rows place row of_kind at = of_kind_at Pq rows place row of_kind at
 
 pub same_or_less : (a b : ℕ) → a ≤ suc b → (a ≡ suc b) ⊎ (a ≤ b)
 same_or_less a b within = grind arith
