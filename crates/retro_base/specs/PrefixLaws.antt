@@ -47,7 +47,7 @@ fits_later [] (suc index) row never there = tt
 fits_later (first ∷ rows) (suc index) row never there =
     (all_at (λ r. first.time ≤ r.time) rows index row never.0 there, fits_later rows index row never.1 there)
 
-take_next : (rows : List Row) (index : ℕ) (row : Row) → slice_get rows index ≡ Some row → take (suc index) rows ≡ take index rows ++ row ∷ []
+pub take_next : (rows : List Row) (index : ℕ) (row : Row) → slice_get rows index ≡ Some row → take (suc index) rows ≡ take index rows ++ row ∷ []
 take_next [] index row there = absurd (cc)
 take_next (first ∷ rows) zero row there = ap (λ r. r ∷ []) (let same : first ≡ row = cc in same)
 take_next (first ∷ rows) (suc index) row there = ap (λ rs. first ∷ rs) (take_next rows index row there)

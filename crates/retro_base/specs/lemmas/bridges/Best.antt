@@ -12,10 +12,9 @@ use Rattle.retro_base.specs.BridgeTable.{added, IsDeadFrom, IsSurvivorBefore}
 use Rattle.retro_base.specs.MarkedChange.{is_one_of, dead_in, alive_in, greatest_dead, least_survivor}
 use Rattle.retro_base.specs.State.{comes_before}
 use Rattle.retro_base.specs.Weights.{added_by}
-use Rattle.retro_base.specs.lemmas.bridges.EntryOrder.{before_irreflexive, before_one_way, not_before_later}
+use Rattle.retro_base.specs.lemmas.bridges.EntryOrder.{before_irreflexive, before_one_way, not_before_later, neither_before}
 use Rattle.retro_base.specs.lemmas.bridges.Entries.{In, contains_in, in_contains}
 use Rattle.retro_base.specs.lemmas.bridges.Tests.{in_is_among, is_among_in, not_among}
-use Rattle.retro_base.specs.lemmas.bridges.Chain.{at_most_both}
 
 -- a strict order, in which of two entries one beats the other
 pub record IsOrder (beaten : Entry → Entry → Bool) : Type 0 where
@@ -25,14 +24,14 @@ pub record IsOrder (beaten : Entry → Entry → Bool) : Type 0 where
   pub both : (a b : Entry) → beaten a b ≡ false → beaten b a ≡ false → a ≡ b
 
 pub before_is_order : IsOrder comes_before
-before_is_order = record { irreflexive = before_irreflexive; one_way = before_one_way; further = not_before_later; both = λ a b first second. at_most_both a b second first }
+before_is_order = record { irreflexive = before_irreflexive; one_way = before_one_way; further = not_before_later; both = neither_before }
 
 pub after_is_order : IsOrder comes_after
 after_is_order = record {
   irreflexive = before_irreflexive;
   one_way = λ a b first. before_one_way b a first;
   further = λ a b c first second. not_before_later c b a second first;
-  both = λ a b first second. at_most_both a b first second;
+  both = λ a b first second. neither_before a b second first;
 }
 
 -- none has the property, or this one is the best of those that have it
@@ -50,11 +49,14 @@ module _ (beaten : Entry → Entry → Bool) (order : IsOrder beaten) where
   best_same P Q (Some b) to back best = record { one = to b best.one; unbeaten = λ other has. best.unbeaten other (back other has) }
 
   -- there is one alone
+  pub best_alone : (P : Entry → Type 0) (a b : Entry) → IsBest beaten P a → IsBest beaten P b → a ≡ b
+  best_alone P a b first second = order.both a b (first.unbeaten b second.one) (second.unbeaten a first.one)
+
   pub one_best : (P : Entry → Type 0) (a b : Option Entry) → FindsBest beaten P a → FindsBest beaten P b → a ≡ b
   one_best P None None first second = refl
   one_best P None (Some b) first second = absurd (first b second.one)
   one_best P (Some a) None first second = absurd (second a first.one)
-  one_best P (Some a) (Some b) first second = ap (λ e. Some e) (order.both a b (first.unbeaten b second.one) (second.unbeaten a first.one))
+  one_best P (Some a) (Some b) first second = ap (λ e. Some e) (best_alone P a b first second)
 
   -- one more entry
   better_by : (P : Entry → Type 0) (b x : Entry) → IsBest beaten P b → (t : Bool) → beaten b x ≡ t → IsBest beaten (λ e. P e ⊎ (e ≡ x)) (cond t x b)

@@ -6,8 +6,8 @@
 use Rattle.std.proofs.Common.{◌≡◌, ◌≢◌, List, [], ◌∷◌, true, false, ◌⊎◌, inl, inr, refl, ap, sym, ◌∙◌, subst, Option, Some, None}
 use Rattle.retro_base.specs.declared.row.Entry.{Entry}
 use Rattle.retro_base.specs.State.{comes_before, with_entry}
-use Rattle.retro_base.specs.lemmas.bridges.EntryOrder.{before_irreflexive, before_transitive, before_or_after}
-use Rattle.retro_base.specs.lemmas.bridges.Entries.{In, Above, first_once, with_in, in_with, with_first, with_later, with_above, with_swapped}
+use Rattle.retro_base.specs.lemmas.bridges.EntryOrder.{before_irreflexive, before_or_after}
+use Rattle.retro_base.specs.lemmas.bridges.Entries.{In, Above, first_once, with_in, in_with, with_first, with_later, with_above, with_swapped, not_before}
 use Rattle.retro_base.specs.lemmas.bridges.Moves.{Leads, Adds, Ready, ready_added, ready_taken}
 
 -- no entry of these comes after this one
@@ -22,12 +22,6 @@ pub record Carried (carried : Entry) (moves : List (Option Entry)) (held end : L
   pub least : AtMost carried last
   pub greatest : (x : Entry) → In x held ⊎ Adds x moves → ¬ In x end → AtMost x last
   pub among : (last ≡ carried) ⊎ (In last held ⊎ Adds last moves)
-
-pub at_most_further : (a b c : Entry) → comes_before a b ≡ true → AtMost b c → AtMost a c
-at_most_further a b c before most = elim (comes_before c a) as (λ t. comes_before c a ≡ t → t ≡ false) [
-  | true ↦ λ wrong. sym (before_transitive c a b wrong before) ∙ most
-  | false ↦ λ right. refl
-] refl
 
 -- a step that adds another entry
 carried_added : (e c : Entry) (moves : List (Option Entry)) (held end : List Entry) → c ≢ e
@@ -58,7 +52,7 @@ carried_exchanged c x moves held end above before next = record {
   leads = subst (λ l. Leads (None ∷ moves) l (with_entry next.last end)) (sym (with_first c x held before))
       (subst (λ l. Leads moves l (with_entry next.last end)) (with_above x held above) next.leads);
   absent = next.absent;
-  least = at_most_further c x next.last before next.least;
+  least = not_before c next.last x before next.least;
   greatest = λ y origin died. elim origin [
     | inl there ↦ elim there [
       | inl first ↦ subst (λ z. AtMost z next.last) (sym first) next.least
@@ -82,7 +76,7 @@ carried_on c x moves held end later after next = record {
   least = next.least;
   greatest = λ y origin died. elim origin [
     | inl there ↦ elim there [
-      | inl first ↦ subst (λ z. AtMost z next.last) (sym first) (at_most_further x c next.last after next.least)
+      | inl first ↦ subst (λ z. AtMost z next.last) (sym first) (not_before x next.last c after next.least)
       | inr further ↦ next.greatest y (inl further) died
     ]
     | inr added ↦ next.greatest y (inr added) died

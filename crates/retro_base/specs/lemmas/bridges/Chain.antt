@@ -2,14 +2,14 @@
 -- all, and places that are no bridges hold a dead entry.
 --
 --     bridge | add 4 | add 6 | take 4 | place      4 is dead, and the dead 6 is greater and still held
-use Rattle.std.proofs.Common.{◌≡◌, ℕ, zero, suc, ◌<◌, true, false, List, [], ◌∷◌, take, ◌⊎◌, inl, inr, refl, sym, ◌∙◌, arith, subst, Option, Some, None}
+use Rattle.std.proofs.Common.{◌≡◌, ℕ, zero, suc, ◌<◌, List, [], ◌∷◌, take, ◌⊎◌, inl, inr, refl, sym, arith, subst, Option, Some, None}
 use Rattle.retro_base.specs.declared.row.Entry.{Entry}
 use Rattle.retro_base.specs.State.{with_entry}
 use Rattle.retro_base.specs.lemmas.bridges.Bridging.{AllIn, some_dead}
-use Rattle.retro_base.specs.lemmas.bridges.EntryOrder.{before_irreflexive, before_or_after, same_or_other}
-use Rattle.retro_base.specs.lemmas.bridges.Entries.{In, above_in, with_in}
+use Rattle.retro_base.specs.lemmas.bridges.EntryOrder.{before_irreflexive}
+use Rattle.retro_base.specs.lemmas.bridges.Entries.{In, above_in, with_in, not_before}
 use Rattle.retro_base.specs.lemmas.bridges.Moves.{Leads, Adds, Ready, ready_added, ready_taken}
-use Rattle.retro_base.specs.lemmas.bridges.Carried.{AtMost, at_most_further}
+use Rattle.retro_base.specs.lemmas.bridges.Carried.{AtMost}
 
 -- no bridge after the first place, up to so many moves
 abbrev pub NoneAfter : ℕ → List (Option Entry) → List Entry → List Entry → Type 0
@@ -50,22 +50,9 @@ outlived (suc n) (None ∷ moves) (y ∷ held) end alive x ready leads none orig
           later = greater.later;
           held_there = greater.held_there;
           dead = greater.dead;
-          no_less = subst (λ z. AtMost z greater.later) (sym first) (at_most_further y rest.0 greater.later (above_in y rest.0 held ready.rising.0 rest.1) greater.no_less);
+          no_less = subst (λ z. AtMost z greater.later) (sym first) (not_before y greater.later rest.0 (above_in y rest.0 held ready.rising.0 rest.1) greater.no_less);
         }
         | inr after ↦ outlived n moves held end alive x prepared leads further (inl after) died
       ]
       | inr added ↦ outlived n moves held end alive x prepared leads further (inr added) died
     ]
-
--- no less than something that is no less
-pub at_most_trans : (a b c : Entry) → AtMost a b → AtMost b c → AtMost a c
-at_most_trans a b c first second = elim (same_or_other a b) [
-  | inl same ↦ subst (λ z. AtMost z c) (sym same) second
-  | inr other ↦ at_most_further a b c (before_or_after b a (λ same. other (sym same)) first) second
-]
-
-pub at_most_both : (a b : Entry) → AtMost a b → AtMost b a → a ≡ b
-at_most_both a b first second = elim (same_or_other a b) [
-  | inl same ↦ same
-  | inr other ↦ let wrong : true ≡ false = sym (before_or_after b a (λ same. other (sym same)) first) ∙ second in absurd (cc)
-]

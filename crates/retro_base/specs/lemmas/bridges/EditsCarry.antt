@@ -12,16 +12,14 @@ use Rattle.retro_base.specs.Changes.{Joins}
 use Rattle.retro_base.specs.Carried.{IsPqEdit, gives, Differ, Carries, ChangesBy, old_start, new_start}
 use Rattle.retro_base.specs.lemmas.bridges.Bridging.{all_in, bridge_all}
 use Rattle.retro_base.specs.lemmas.bridges.Histories.{valid_leads, never_both, moves_of}
-use Rattle.retro_base.specs.lemmas.bridges.After.{carried_after, one_more_after, carried_to_end, one_more_survives, rich_valid}
+use Rattle.retro_base.specs.lemmas.bridges.After.{row_after, carried_after, one_more_after, carried_to_end, one_more_survives, rich_valid}
 use Rattle.retro_base.specs.lemmas.bridges.Entries.{In, with_in}
 use Rattle.retro_base.specs.lemmas.bridges.Surviving.{kept_after}
-use Rattle.retro_base.specs.lemmas.bridges.Later.{adding_later, row_after, one_joins, junction_later}
+use Rattle.retro_base.specs.lemmas.bridges.Later.{adding_later, one_joins, junction_later}
 use Rattle.retro_base.specs.lemmas.bridges.EditJunctions.{Taking, giving, taking}
 
 pub giving_accepted : (rows : List Row) (edit : Edit) → IsPqEdit rows edit → gives edit ≡ true → IsAccepted Pq rows edit
-giving_accepted rows edit possible gain =
-    let g = giving rows edit possible gain in
-    rich_valid g.entry g.held g.after rows (edited rows edit) (old_start edit) (new_start edit) g.junction possible.history.valid
+giving_accepted rows edit possible gain = rich_valid (giving rows edit possible gain).junction possible.history.valid
 
 -- an accepted edit finds what it takes
 pub accepted_taking : (rows : List Row) (edit : Edit) → IsPqEdit rows edit → IsAccepted Pq rows edit → gives edit ≡ false → Taking rows edit
@@ -33,15 +31,9 @@ accepted_taking rows edit possible accepted loss = elim (taking rows edit possib
 one_carried_by : (rows : List Row) (edit : Edit) (more : ℕ) → IsPqEdit rows edit → IsAccepted Pq rows edit → (b : Bool) → gives edit ≡ b
     → (entry : Entry) × Differ b entry (entries_at rows (old_start edit + more)) (entries_at (edited rows edit) (new_start edit + more))
 one_carried_by rows edit more possible accepted true gain =
-    let g = giving rows edit possible gain in (
-      (carried_after g.entry g.held g.after rows (edited rows edit) (old_start edit) (new_start edit) g.junction possible.history.valid more).last,
-      one_more_after g.entry g.held g.after rows (edited rows edit) (old_start edit) (new_start edit) g.junction possible.history.valid more,
-    )
+    let j = (giving rows edit possible gain).junction in ((carried_after j possible.history.valid more).last, one_more_after j possible.history.valid more)
 one_carried_by rows edit more possible accepted false loss =
-    let t = accepted_taking rows edit possible accepted loss in (
-      (carried_after t.entry t.held t.after (edited rows edit) rows (new_start edit) (old_start edit) t.junction accepted more).last,
-      one_more_after t.entry t.held t.after (edited rows edit) rows (new_start edit) (old_start edit) t.junction accepted more,
-    )
+    let j = (accepted_taking rows edit possible accepted loss).junction in ((carried_after j accepted more).last, one_more_after j accepted more)
 
 pub one_carried : (rows : List Row) (edit : Edit) (more : ℕ) → IsPqEdit rows edit → IsAccepted Pq rows edit → (entry : Entry) × Carries rows edit more entry
 one_carried rows edit more possible accepted = one_carried_by rows edit more possible accepted (gives edit) refl
@@ -49,15 +41,9 @@ one_carried rows edit more possible accepted = one_carried_by rows edit more pos
 presents_by : (rows : List Row) (edit : Edit) → IsPqEdit rows edit → IsAccepted Pq rows edit → (b : Bool) → gives edit ≡ b
     → (entry : Entry) × Differ b entry (survivors rows) (survivors (edited rows edit))
 presents_by rows edit possible accepted true gain =
-    let g = giving rows edit possible gain in (
-      (carried_to_end g.entry g.held g.after rows (edited rows edit) (old_start edit) (new_start edit) g.junction possible.history.valid).last,
-      one_more_survives g.entry g.held g.after rows (edited rows edit) (old_start edit) (new_start edit) g.junction possible.history.valid,
-    )
+    let j = (giving rows edit possible gain).junction in ((carried_to_end j possible.history.valid).last, one_more_survives j possible.history.valid)
 presents_by rows edit possible accepted false loss =
-    let t = accepted_taking rows edit possible accepted loss in (
-      (carried_to_end t.entry t.held t.after (edited rows edit) rows (new_start edit) (old_start edit) t.junction accepted).last,
-      one_more_survives t.entry t.held t.after (edited rows edit) rows (new_start edit) (old_start edit) t.junction accepted,
-    )
+    let j = (accepted_taking rows edit possible accepted loss).junction in ((carried_to_end j accepted).last, one_more_survives j accepted)
 
 pub presents_differ : (rows : List Row) (edit : Edit) → IsPqEdit rows edit → IsAccepted Pq rows edit → (entry : Entry) × ChangesBy rows edit entry
 presents_differ rows edit possible accepted = presents_by rows edit possible accepted (gives edit) refl
@@ -68,15 +54,11 @@ adding_by : (rows : List Row) (edit : Edit) (more : ℕ) (row : Row) (added entr
     → Differ b entry (entries_at rows (old_start edit + more)) (entries_at (edited rows edit) (new_start edit + more))
     → Differ b entry (entries_at rows (old_start edit + suc more)) (entries_at (edited rows edit) (new_start edit + suc more))
 adding_by rows edit more row added entry possible accepted at adds true gain join =
-    let g = giving rows edit possible gain in
-    let j = g.junction in
-    adding_later g.entry g.held g.after rows (edited rows edit) (old_start edit) (new_start edit) j possible.history.valid more row added entry
-    (row_after rows j.poor_front g.after (old_start edit) more row j.poor_is j.poor_length at) adds join
+    let j = (giving rows edit possible gain).junction in
+    adding_later j possible.history.valid more row added entry (row_after j.poorer more row at) adds join
 adding_by rows edit more row added entry possible accepted at adds false loss join =
-    let t = accepted_taking rows edit possible accepted loss in
-    let j = t.junction in
-    adding_later t.entry t.held t.after (edited rows edit) rows (new_start edit) (old_start edit) j accepted more row added entry
-    (row_after rows j.rich_front t.after (old_start edit) more row j.rich_is j.rich_length at) adds join
+    let j = (accepted_taking rows edit possible accepted loss).junction in
+    adding_later j accepted more row added entry (row_after j.richer more row at) adds join
 
 pub adding_carries_on : (rows : List Row) (edit : Edit) (more : ℕ) (row : Row) (added entry : Entry) → IsPqEdit rows edit → IsAccepted Pq rows edit
     → slice_get rows (old_start edit + more) ≡ Some row → added_by row ≡ Some added
@@ -92,14 +74,13 @@ missing_by : (rows : List Row) (edit : Edit) (more further : ℕ) (entry : Entry
 missing_by rows edit more further entry possible accepted loss within bridge join =
     let t = accepted_taking rows edit possible accepted loss in
     let j = t.junction in
-    let inside : more ≤ length t.after = omega (arith, within, ap length j.rich_is, length-append j.rich_front t.after, j.rich_length) in
-    let there = carried_after t.entry t.held t.after (edited rows edit) rows (new_start edit) (old_start edit) j accepted more in
-    let joined = one_more_after t.entry t.held t.after (edited rows edit) rows (new_start edit) (old_start edit) j accepted more in
+    let inside : more ≤ length t.after = omega (arith, within, ap length j.richer.is, length-append j.richer.front t.after, j.richer.size) in
+    let there = carried_after j accepted more in
+    let joined = one_more_after j accepted more in
     let same : there.last ≡ entry = sym (one_joins entry there.last _ _ join joined.joined) in
     let lives : In there.last (survivors rows) = all_in (survivors rows) (entries_at rows (old_start edit + more)) there.last (bridge_all (survivors rows) (entries_at rows (old_start edit + more)) bridge)
     (subst (In there.last) (sym joined.joined) (with_in there.last there.last (entries_at (edited rows edit) (new_start edit + more)) (inl refl))) in
-    let kept = kept_after there.last _ (drop more t.after) (edited rows edit) rows (new_start edit + more) (old_start edit + more)
-    (junction_later t.entry t.held t.after (edited rows edit) rows (new_start edit) (old_start edit) j accepted more inside) possible.history.valid lives further in
+    let kept = kept_after (junction_later j accepted more inside) possible.history.valid lives further in
     let new_at : new_start edit + more + further ≡ new_start edit + (more + further) = omega arith in
     let old_at : old_start edit + more + further ≡ old_start edit + (more + further) = omega arith in
     subst (λ x. Joins x (entries_at (edited rows edit) (new_start edit + (more + further))) (entries_at rows (old_start edit + (more + further)))) same

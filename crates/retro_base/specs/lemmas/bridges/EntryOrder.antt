@@ -85,3 +85,10 @@ before_later a b c first after = elim (same_or_other b c) [
   | inl same ↦ rw (← same) first
   | inr other ↦ before_transitive a b c first (before_or_after c b (λ back. other (sym back)) after)
 ]
+
+-- of two entries of which neither comes before the other there is one
+pub neither_before : (a b : Entry) → comes_before a b ≡ false → comes_before b a ≡ false → a ≡ b
+neither_before a b first second = elim (same_or_other a b) [
+  | inl same ↦ same
+  | inr other ↦ let wrong : true ≡ false = sym (before_or_after a b other first) ∙ second in absurd (cc)
+]

@@ -2,9 +2,9 @@
 -- dead entry is held at the last bridge before it, and those that were taken between are outlived by a greater dead one.
 --
 --     bridge ... place | taken entries ...      gained: the greatest dead entry from the bridge on
-use Rattle.std.proofs.Common.{◌≡◌, ℕ, zero, suc, ◌+◌, ◌-◌, ◌<◌, ◌≤◌, List, [], ◌∷◌, ◌++◌, length, take, drop, zero-add, ◌⊎◌, inl, inr, refl, ap, sym, ◌∙◌, arith, subst, Some, None}
+use Rattle.std.proofs.Common.{◌≡◌, ℕ, suc, ◌+◌, ◌-◌, ◌<◌, ◌≤◌, List, [], ◌∷◌, ◌++◌, length, take, drop, ◌⊎◌, inl, inr, refl, ap, sym, ◌∙◌, arith, subst, Some, None}
 use Rattle.std.specs.Prelude.{◌↔◌}
-use Rattle.std.proofs.lemmas.List.{take-append-drop, take-map}
+use Rattle.std.proofs.lemmas.List.{drop-drop, take-map}
 use Rattle.std.proofs.lemmas.Option.{slice_get_within}
 use Rattle.retro_base.specs.declared.row.Entry.{Entry}
 use Rattle.retro_base.specs.declared.row.Row.{Row}
@@ -14,38 +14,34 @@ use Rattle.retro_base.specs.Changes.{Joins, Gains}
 use Rattle.retro_base.specs.Weights.{added_by}
 use Rattle.retro_base.specs.Carried.{IsPqHistory, IsPqEdit}
 use Rattle.retro_base.specs.BridgeTable.{added, IsDeadFrom, IsGreatest}
+use Rattle.retro_base.specs.State.{comes_before}
+use Rattle.retro_base.specs.lemmas.bridges.Best.{best_alone, before_is_order}
 use Rattle.retro_base.specs.lemmas.bridges.Bridging.{AllIn, all_in, bridge_all, all_bridge}
 use Rattle.retro_base.specs.lemmas.bridges.Added.{added_adds, adds_added}
 use Rattle.retro_base.specs.lemmas.bridges.Entries.{In, contains_in, in_contains}
+use Rattle.retro_base.specs.lemmas.bridges.EntryOrder.{not_before_later}
 use Rattle.retro_base.specs.lemmas.bridges.Moves.{Leads, Adds, came_from, adds_first, adds_second, adds_both}
-use Rattle.retro_base.specs.lemmas.bridges.Histories.{moves_of, history_at}
-use Rattle.retro_base.specs.lemmas.bridges.After.{after_front, entries_after, moves_split, carried_to_end, one_more_survives}
+use Rattle.retro_base.specs.lemmas.bridges.Histories.{moves_of, moves_split, history_at}
+use Rattle.retro_base.specs.lemmas.bridges.Junctions.{parted_at, row_at, seam_of_add, seam_of_cut, junction_added, junction_taken}
+use Rattle.retro_base.specs.lemmas.bridges.After.{after_place, entries_after, carried_to_end, one_more_survives}
 use Rattle.retro_base.specs.lemmas.bridges.Carried.{AtMost}
-use Rattle.retro_base.specs.lemmas.bridges.Chain.{NoneAfter, outlived, at_most_trans, at_most_both}
-use Rattle.retro_base.specs.lemmas.bridges.Later.{one_joins, row_at}
-use Rattle.retro_base.specs.lemmas.bridges.EditJunctions.{join_added_entry, join_cut_take, cut_take_holds, length_front}
+use Rattle.retro_base.specs.lemmas.bridges.Chain.{NoneAfter, outlived}
+use Rattle.retro_base.specs.lemmas.bridges.Later.{one_joins}
+use Rattle.retro_base.specs.lemmas.bridges.EditJunctions.{cut_take_holds}
 
 -- between a bridge and a place after it
 pub record Between (rows : List Row) (bridge place : ℕ) : Type 0 where
   pub up_to : Leads (moves_of (take (place - bridge) (drop bridge rows))) (entries_at rows bridge) (entries_at rows place)
   pub split : moves_of (drop bridge rows) ≡ moves_of (take (place - bridge) (drop bridge rows)) ++ moves_of (drop place rows)
 
-drop_further : (n m index : ℕ) (rows : List Row) → index ≡ n + m → drop m (drop n rows) ≡ drop index rows
-drop_further zero m index rows at = ap (λ i. drop i rows) (sym (at ∙ zero-add m))
-drop_further (suc n) m zero rows at = absurd (omega arith)
-drop_further (suc n) zero (suc index) [] at = refl
-drop_further (suc n) (suc m) (suc index) [] at = refl
-drop_further (suc n) m (suc index) (r ∷ rows) at = drop_further n m index rows (omega arith)
-
 pub between : (rows : List Row) (bridge place : ℕ) → IsPqHistory rows → bridge ≤ place → place ≤ length rows → Between rows bridge place
 between rows bridge place history before within =
-    let parts = after_front rows (take bridge rows) (drop bridge rows) bridge (place - bridge) (entries_at rows bridge) (sym (take-append-drop bridge rows))
-    (length_front rows bridge (omega arith)) history.of_kind history.valid (history_at rows bridge history).first in
+    let parts = after_place (parted_at rows bridge (omega arith) history) history.valid (place - bridge) in
     let there : bridge + (place - bridge) ≡ place = omega arith in
     record {
       up_to = subst (λ n. Leads (moves_of (take (place - bridge) (drop bridge rows))) (entries_at rows bridge) (entries_at rows n)) there parts.up_to;
       split = moves_split (place - bridge) (drop bridge rows)
-          ∙ ap (λ l. moves_of (take (place - bridge) (drop bridge rows)) ++ moves_of l) (drop_further bridge (place - bridge) place rows (sym there));
+          ∙ ap (λ l. moves_of (take (place - bridge) (drop bridge rows)) ++ moves_of l) (drop-drop (place - bridge) bridge rows ∙ ap (λ n. drop n rows) there);
     }
 
 -- no place between is a bridge
@@ -54,8 +50,7 @@ none_between : (rows : List Row) (bridge place : ℕ) → IsPqHistory rows → p
 none_between rows bridge place history within last = λ k next less way all.
     let before : bridge ≤ place = last.within in
     let there : entries_at rows (bridge + suc k) ≡ next =
-    entries_after rows (take bridge rows) (drop bridge rows) bridge (suc k) (entries_at rows bridge) next (sym (take-append-drop bridge rows))
-    (length_front rows bridge (omega arith)) history.of_kind (history_at rows bridge history).first
+    entries_after (parted_at rows bridge (omega arith) history) (suc k) next
     (subst (λ l. Leads l (entries_at rows bridge) next) (take-map added_by (suc k) (drop bridge rows)) way) in
     last.last (bridge + suc k) (omega arith) (omega arith)
     (all_bridge (survivors rows) (entries_at rows (bridge + suc k)) (subst (AllIn (survivors rows)) (sym there) all))
@@ -91,30 +86,26 @@ bound_from rows bridge place last x history within last_bridge bound dead =
           let outlives = outlived (place - bridge) (moves_of (drop bridge rows)) (entries_at rows bridge) (entries_at rows place) (survivors rows) x
           (history_at rows bridge history).ready (subst (λ l. Leads l (entries_at rows bridge) (entries_at rows place)) (sym moved) b.up_to)
           (none_between rows bridge place history within last_bridge) (inr (subst (Adds x) (sym moved) early)) died in
-          at_most_trans x outlives.later last outlives.no_less (bound outlives.later (inl outlives.held_there) outlives.dead)
+          not_before_later last outlives.later x (bound outlives.later (inl outlives.held_there) outlives.dead) outlives.no_less
       | inr later ↦ bound x (inr later) died
     ]
 
 -- the greatest is one alone, and is the one that is gained
-greatest_is : (P : Entry → Type 0) (a b : Entry) → IsGreatest P a → IsGreatest P b → a ≡ b
-greatest_is P a b first second = at_most_both a b (second.unbeaten a first.one) (first.unbeaten b second.one)
-
 pub gained_iff : (P : Entry → Type 0) (last entry : Entry) (before after : List Entry) → Joins last before after → IsGreatest P last
     → Joins entry before after ↔ IsGreatest P entry
 gained_iff P last entry before after joined greatest = (
   λ join. subst (IsGreatest P) (sym (one_joins entry last before after join joined.joined)) greatest,
-  λ great. subst (λ x. Joins x before after) (greatest_is P last entry greatest great) joined,
+  λ great. subst (λ x. Joins x before after) (best_alone comes_before before_is_order P last entry greatest great) joined,
 )
 
 pub added_entry_gains : (rows : List Row) (place : ℕ) (row : Row) (new : Entry) (bridge : ℕ) (entry : Entry) → IsPqEdit rows (add place row)
     → added_by row ≡ Some new → IsLastBridge rows place bridge
     → Gains rows (add place row) entry ↔ IsGreatest (λ e. (e ≡ new) ⊎ IsDeadFrom rows bridge e) entry
 added_entry_gains rows place row new bridge entry possible adds last_bridge =
-    let j = join_added_entry rows place row new possible adds in
+    let j = junction_added (seam_of_add rows place row possible) new adds in
     let history = possible.history in
-    let c = carried_to_end new (entries_at rows place) (drop place rows) rows (edited rows (add place row)) place (suc place) j history.valid in
-    gained_iff _ c.last entry (survivors rows) (survivors (edited rows (add place row)))
-    (one_more_survives new (entries_at rows place) (drop place rows) rows (edited rows (add place row)) place (suc place) j history.valid)
+    let c = carried_to_end j history.valid in
+    gained_iff _ c.last entry (survivors rows) (survivors (edited rows (add place row))) (one_more_survives j history.valid)
     (record {
       one = elim c.among [
         | inl same ↦ inl same
@@ -131,17 +122,14 @@ pub cut_take_gains : (rows : List Row) (place : ℕ) (row : Row) (bridge : ℕ) 
     → Gains rows (cut place row) entry ↔ IsGreatest (IsDeadFrom rows bridge) entry
 cut_take_gains rows place row bridge entry possible takes last_bridge =
     let found = cut_take_holds rows place row possible takes in
-    let x = found.0 in
-    let held = found.1 in
-    let j = join_cut_take rows place row x held possible takes found.2 in
+    let j = junction_taken (seam_of_cut rows place row possible) found.0 found.1 takes found.2 in
     let history = possible.history in
-    let after = drop (suc place) rows in
-    let c = carried_to_end x held after rows (edited rows (cut place row)) (suc place) place j history.valid in
+    let c = carried_to_end j history.valid in
     let inside : place < length rows = slice_get_within rows place row possible.within in
     let within : place ≤ length rows = omega arith in
-    let next : moves_of (drop place rows) ≡ None ∷ moves_of after = ap moves_of (row_at rows place row possible.within) ∙ ap (λ m. m ∷ moves_of after) takes in
-    gained_iff _ c.last entry (survivors rows) (survivors (edited rows (cut place row)))
-    (one_more_survives x held after rows (edited rows (cut place row)) (suc place) place j history.valid)
+    let next : moves_of (drop place rows) ≡ None ∷ moves_of (drop (suc place) rows) =
+    ap moves_of (row_at rows place row possible.within) ∙ ap (λ m. m ∷ moves_of (drop (suc place) rows)) takes in
+    gained_iff _ c.last entry (survivors rows) (survivors (edited rows (cut place row))) (one_more_survives j history.valid)
     (record {
       one = dead_from rows bridge place c.last history last_bridge.within within last_bridge.bridges
           (elim c.among [

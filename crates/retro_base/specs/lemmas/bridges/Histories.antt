@@ -18,9 +18,9 @@ use Rattle.retro_base.specs.Timeline.{IsFresh, HaveOwnNumbers, AreOfKind}
 use Rattle.retro_base.specs.Bridges.{entries_of, entries_at, survivors}
 use Rattle.retro_base.specs.Weights.{added_as, added_by}
 use Rattle.retro_base.specs.Carried.{IsPqHistory}
-use Rattle.retro_base.specs.OrderLaws.{all_parts}
+use Rattle.retro_base.specs.lemmas.Replayable.{all_before}
 use Rattle.retro_base.specs.lemmas.Folds.{fold_rows-nil, fold_rows-some, fold_rows-none}
-use Rattle.retro_base.specs.lemmas.bridges.Moves.{Leads, FailsAt, Adds, AddEachOnce, Ready, leads_parts, one_end, ready_later}
+use Rattle.retro_base.specs.lemmas.bridges.Moves.{Leads, FailsAt, Adds, AddEachOnce, Ready, leads_both, leads_parts, one_end, ready_later}
 
 abbrev pub moves_of : List Row → List (Option Entry)
 moves_of rows = map added_by rows
@@ -125,6 +125,11 @@ moves_length rows = length-map rows added_by
 pub moves_append : (a b : List Row) → moves_of (a ++ b) ≡ moves_of a ++ moves_of b
 moves_append a b = map-append added_by a b
 
+-- and lead on one after the other
+pub rows_lead : (a b : List Row) (held middle end : List Entry) → Leads (moves_of a) held middle → Leads (moves_of b) middle end → Leads (moves_of (a ++ b)) held end
+rows_lead a b held middle end first second =
+    subst (λ l. Leads l held end) (sym (moves_append a b)) (leads_both (moves_of a) (moves_of b) held middle end first second)
+
 pub some_same : {X : Type 0} {x y : X} (o : Option X) → o ≡ Some x → o ≡ Some y → x ≡ y
 some_same o e f = cc
 
@@ -159,26 +164,14 @@ once_of (row ∷ rows) own = elim (added_by row) as (λ m. added_by row ≡ m �
 pub ready_at_start : (rows : List Row) → HaveOwnNumbers rows → Ready [] (moves_of rows)
 ready_at_start rows own = record { rising = tt; once = once_of rows own; apart = λ x none. absurd none }
 
--- a history in two parts: the first leads to what is held between them, and the second from there to the survivors
-pub record Parts (front back : List Row) : Type 0 where
-  pub first : Leads (moves_of front) [] (survivors front)
-  pub second : Leads (moves_of back) (survivors front) (survivors (front ++ back))
-  pub ready : Ready (survivors front) (moves_of back)
+-- rows in two parts: those up to a place, and the others
+pub moves_split : (more : ℕ) (after : List Row) → moves_of after ≡ moves_of (take more after) ++ moves_of (drop more after)
+moves_split more after = ap moves_of (sym (take-append-drop more after)) ∙ moves_append (take more after) (drop more after)
 
-pub history_parts : (front back : List Row) → IsPqHistory (front ++ back) → Parts front back
-history_parts front back history =
-    let whole : Leads (moves_of front ++ moves_of back) [] (survivors (front ++ back)) =
-    subst (λ l. Leads l [] (survivors (front ++ back))) (moves_append front back) (valid_leads (front ++ back) history.of_kind history.valid) in
-    let ready : Ready [] (moves_of front ++ moves_of back) = subst (Ready []) (moves_append front back) (ready_at_start (front ++ back) history.own_numbers) in
-    let parts = leads_parts (moves_of front) (moves_of back) [] (survivors (front ++ back)) whole in
-    let same : survivors front ≡ parts.0 = leads_survivors front parts.0 (all_parts (λ r. kind_of r.op ≡ Pq) front back history.of_kind).0 parts.1 in
-    record {
-      first = subst (Leads (moves_of front) []) (sym same) parts.1;
-      second = subst (λ l. Leads (moves_of back) l (survivors (front ++ back))) (sym same) parts.2;
-      ready = subst (λ l. Ready l (moves_of back)) (sym same) (ready_later (moves_of front) (moves_of back) [] parts.0 ready parts.1);
-    }
+pub whole_ready : (rows : List Row) (place : ℕ) → IsPqHistory rows → Ready [] (moves_of (take place rows) ++ moves_of (drop place rows))
+whole_ready rows place history = subst (Ready []) (moves_split place rows) (ready_at_start rows history.own_numbers)
 
--- the same at a place
+-- the first ones lead to what is held at the place, and the others from there to the survivors
 pub record At (rows : List Row) (place : ℕ) : Type 0 where
   pub first : Leads (moves_of (take place rows)) [] (entries_at rows place)
   pub second : Leads (moves_of (drop place rows)) (entries_at rows place) (survivors rows)
@@ -186,15 +179,12 @@ pub record At (rows : List Row) (place : ℕ) : Type 0 where
 
 pub history_at : (rows : List Row) (place : ℕ) → IsPqHistory rows → At rows place
 history_at rows place history =
-    let parts = history_parts (take place rows) (drop place rows) (subst IsPqHistory (sym (take-append-drop place rows)) history) in
+    let front = moves_of (take place rows) in
+    let back = moves_of (drop place rows) in
+    let parts = leads_parts front back [] (survivors rows) (subst (λ l. Leads l [] (survivors rows)) (moves_split place rows) (valid_leads rows history.of_kind history.valid)) in
+    let same : entries_at rows place ≡ parts.0 = leads_survivors (take place rows) parts.0 (all_before (λ r. kind_of r.op ≡ Pq) rows place history.of_kind) parts.1 in
     record {
-      first = parts.first;
-      second = subst (λ l. Leads (moves_of (drop place rows)) (survivors (take place rows)) (survivors l)) (take-append-drop place rows) parts.second;
-      ready = parts.ready;
+      first = subst (Leads front []) (sym same) parts.1;
+      second = subst (λ l. Leads back l (survivors rows)) (sym same) parts.2;
+      ready = subst (λ l. Ready l back) (sym same) (ready_later front back [] parts.0 (whole_ready rows place history) parts.1);
     }
-
--- all moves of a history, in two parts
-pub whole_ready : (rows : List Row) (place : ℕ) → IsPqHistory rows → Ready [] (moves_of (take place rows) ++ moves_of (drop place rows))
-whole_ready rows place history =
-    subst (Ready []) (moves_append (take place rows) (drop place rows))
-    (subst (λ l. Ready [] (moves_of l)) (sym (take-append-drop place rows)) (ready_at_start rows history.own_numbers))

@@ -3,67 +3,87 @@
 --
 --     before | ins 4 | after         held and 4
 --     before         | after         held
-use Rattle.std.proofs.Common.{◌≡◌, ◌≢◌, ℕ, suc, List, [], ◌∷◌, ◌++◌, length, append_assoc, length-append, inl, inr, refl, ap, sym, ◌∙◌, arith, subst, Option, Some, None}
-use Rattle.std.specs.List.{AllByRecursion}
+use Rattle.std.proofs.Common.{◌≡◌, ◌≢◌, ℕ, suc, ◌<◌, ◌≤◌, List, [], ◌∷◌, ◌++◌, length, take, drop, append_assoc, length-append, length-take-le, inl, inr, refl, ap, sym, ◌∙◌, arith, subst, Option, Some, None}
+use Rattle.std.specs.Prelude.{slice_get}
+use Rattle.std.proofs.Math.Seq.{drop-cons}
+use Rattle.std.proofs.lemmas.List.{take-append-drop}
+use Rattle.std.proofs.lemmas.Option.{get_or_from_slice_get, slice_get_within}
 use Rattle.retro_base.specs.declared.kind.Kind.TheVariants.{Pq}
 use Rattle.retro_base.specs.declared.row.Entry.{Entry}
 use Rattle.retro_base.specs.declared.row.Row.{Row}
 use Rattle.retro_base.specs.State.{with_entry}
 use Rattle.retro_base.specs.Kind.{kind_of}
 use Rattle.retro_base.specs.Timeline.{IsFresh, AreOfKind}
-use Rattle.retro_base.specs.Bridges.{survivors}
+use Rattle.retro_base.specs.Edits.{add, cut, edited}
+use Rattle.retro_base.specs.Bridges.{entries_at}
 use Rattle.retro_base.specs.Weights.{added_by}
-use Rattle.retro_base.specs.Carried.{IsPqHistory}
+use Rattle.retro_base.specs.Carried.{IsPqHistory, IsPqEdit}
+use Rattle.retro_base.specs.OrderLaws.{all_parts, all_with, all_without}
+use Rattle.retro_base.specs.lemmas.Counted.{around}
 use Rattle.retro_base.specs.lemmas.bridges.Entries.{In, first_once, with_above}
-use Rattle.retro_base.specs.lemmas.bridges.Moves.{Leads, Adds, Ready, leads_both, came_from, new_here}
-use Rattle.retro_base.specs.lemmas.bridges.Histories.{moves_of, moves_append, added_number, fresh_adds, history_parts}
+use Rattle.retro_base.specs.lemmas.bridges.Moves.{Leads, Adds, Ready, ready_on, ready_taken, ready_with, came_from, new_here}
+use Rattle.retro_base.specs.lemmas.bridges.Histories.{moves_of, rows_lead, added_number, fresh_adds, history_at}
 
--- a row between other rows: what is held before it, and what its move and the ones after it can count on
-pub record Seam (before : List Row) (row : Row) (after : List Row) : Type 0 where
-  pub first : Leads (moves_of before) [] (survivors before)
-  pub ready : Ready (survivors before) (moves_of (row ∷ after))
-  pub of_kind : AreOfKind Pq (before ++ row ∷ after)
+-- rows in two parts: the first ones, up to a place, lead to what is held there
+pub record Parted (rows after : List Row) (place : ℕ) (held : List Entry) : Type 0 where
+  pub front : List Row
+  pub is : rows ≡ front ++ after
+  pub size : length front ≡ place
+  pub leads : Leads (moves_of front) [] held
+  pub of_kind : AreOfKind Pq rows
 
--- the two lists, with the entry that the richer one holds more where they join
-pub record Junction (entry : Entry) (held : List Entry) (after : List Row) (poor rich : List Row) (poor_place rich_place : ℕ) : Type 0 where
-  pub poor_front : List Row
-  pub rich_front : List Row
-  pub poor_is : poor ≡ poor_front ++ after
-  pub rich_is : rich ≡ rich_front ++ after
-  pub poor_length : length poor_front ≡ poor_place
-  pub rich_length : length rich_front ≡ rich_place
-  pub poor_leads : Leads (moves_of poor_front) [] held
-  pub rich_leads : Leads (moves_of rich_front) [] (with_entry entry held)
-  pub poor_kind : AreOfKind Pq poor
-  pub rich_kind : AreOfKind Pq rich
+abbrev pub parted_at : (rows : List Row) (place : ℕ) → place ≤ length rows → IsPqHistory rows → Parted rows (drop place rows) place (entries_at rows place)
+parted_at rows place within history = record {
+  front = take place rows;
+  is = sym (take-append-drop place rows);
+  size = length-take-le place rows within;
+  leads = (history_at rows place history).first;
+  of_kind = history.of_kind;
+}
+
+-- two lists that are parted, with the entry that the richer one holds more where they join
+pub record Junction (entry : Entry) (held : List Entry) (after poor rich : List Row) (poor_place rich_place : ℕ) : Type 0 where
+  pub poorer : Parted poor after poor_place held
+  pub richer : Parted rich after rich_place (with_entry entry held)
   pub ready : Ready held (moves_of after)
   pub absent : ¬ In entry held
   pub never : ¬ Adds entry (moves_of after)
 
--- what holds of all rows holds without one, and with one more
-all_without : (P : Row → Type 0) (before : List Row) (row : Row) (after : List Row) → AllByRecursion P (before ++ row ∷ after) → AllByRecursion P (before ++ after)
-all_without P [] row after all = all.1
-all_without P (r ∷ before) row after all = (all.0, all_without P before row after all.1)
+pub rich_ready : {entry : Entry} {held : List Entry} {after poor rich : List Row} {poor_place rich_place : ℕ} → Junction entry held after poor rich poor_place rich_place
+    → Ready (with_entry entry held) (moves_of after)
+rich_ready {entry} {held} {after} j = ready_with entry (moves_of after) held j.ready j.absent j.never
 
-all_with : (P : Row → Type 0) (before : List Row) (row : Row) (after : List Row) → AllByRecursion P (before ++ after) → P row → AllByRecursion P (before ++ row ∷ after)
-all_with P [] row after all here = (here, all)
-all_with P (r ∷ before) row after all here = (all.0, all_with P before row after all.1 here)
+-- rows with a row at a place and without it: what is held before it, and what its move and the ones after it can count on
+pub record Seam (row : Row) (less more after : List Row) (place : ℕ) (held : List Entry) : Type 0 where
+  pub without : Parted less after place held
+  pub is : more ≡ without.front ++ row ∷ after
+  pub of_kind : AreOfKind Pq more
+  pub ready : Ready held (added_by row ∷ moves_of after)
 
-pub all_front : (P : Row → Type 0) (before after : List Row) → AllByRecursion P (before ++ after) → AllByRecursion P before
-all_front P [] after all = tt
-all_front P (r ∷ before) after all = (all.0, all_front P before after all.1)
+pub row_at : (rows : List Row) (place : ℕ) (row : Row) → slice_get rows place ≡ Some row → drop place rows ≡ row ∷ drop (suc place) rows
+row_at rows place row at =
+    drop-cons rows place row (slice_get_within rows place row at) ∙ ap (λ r. r ∷ drop (suc place) rows) (get_or_from_slice_get rows place row row at)
 
-all_back : (P : Row → Type 0) (before after : List Row) → AllByRecursion P (before ++ after) → AllByRecursion P after
-all_back P [] after all = all
-all_back P (r ∷ before) after all = all_back P before after all.1
+-- a row that is cut
+pub seam_of_cut : (rows : List Row) (place : ℕ) (row : Row) → IsPqEdit rows (cut place row)
+    → Seam row (edited rows (cut place row)) rows (drop (suc place) rows) place (entries_at rows place)
+seam_of_cut rows place row possible =
+    let parts = history_at rows place possible.history in
+    let inside : place < length rows = slice_get_within rows place row possible.within in
+    record {
+      without = record {
+        front = take place rows;
+        is = refl;
+        size = length-take-le place rows (omega arith);
+        leads = parts.first;
+        of_kind = all_without (λ r. kind_of r.op ≡ Pq) rows place possible.history.of_kind;
+      };
+      is = around rows place row possible.within;
+      of_kind = possible.history.of_kind;
+      ready = subst (λ l. Ready (entries_at rows place) (moves_of l)) (row_at rows place row possible.within) parts.ready;
+    }
 
--- the seam of a row that stands in a history
-pub seam_of_cut : (before : List Row) (row : Row) (after : List Row) → IsPqHistory (before ++ row ∷ after) → Seam before row after
-seam_of_cut before row after history =
-    let parts = history_parts before (row ∷ after) history in
-    record { first = parts.first; ready = parts.ready; of_kind = history.of_kind }
-
--- the seam of a row that is put in with a number of its own
+-- a row that is put in with a number of its own
 ready_before : (row : Row) (after : List Row) (before : List Row) (held : List Entry) (m : Option Entry) → added_by row ≡ m
     → Leads (moves_of before) [] held → IsFresh row.number before → IsFresh row.number after
     → Ready held (moves_of after) → Ready held (m ∷ moves_of after)
@@ -82,68 +102,49 @@ ready_before row after before held (Some e) adds first fresh_before fresh ready 
       ];
     }
 
-pub seam_of_add : (before : List Row) (row : Row) (after : List Row) → IsPqHistory (before ++ after) → kind_of row.op ≡ Pq
-    → IsFresh row.number (before ++ after) → Seam before row after
-seam_of_add before row after history of_kind fresh =
-    let parts = history_parts before after history in
+pub seam_of_add : (rows : List Row) (place : ℕ) (row : Row) → IsPqEdit rows (add place row)
+    → Seam row rows (edited rows (add place row)) (drop place rows) place (entries_at rows place)
+seam_of_add rows place row possible =
+    let parts = history_at rows place possible.history in
+    let fresh = all_parts (λ r. r.number ≢ row.number) (take place rows) (drop place rows) (subst (IsFresh row.number) (sym (take-append-drop place rows)) possible.own_row.1) in
     record {
-      first = parts.first;
-      ready = ready_before row after before (survivors before) (added_by row) refl parts.first
-          (all_front (λ r. r.number ≢ row.number) before after fresh) (all_back (λ r. r.number ≢ row.number) before after fresh) parts.ready;
-      of_kind = all_with (λ r. kind_of r.op ≡ Pq) before row after history.of_kind of_kind;
+      without = parted_at rows place possible.within possible.history;
+      is = refl;
+      of_kind = all_with (λ r. kind_of r.op ≡ Pq) rows place row possible.history.of_kind possible.own_row.0;
+      ready = ready_before row (drop place rows) (take place rows) (entries_at rows place) (added_by row) refl parts.first fresh.0 fresh.1 parts.ready;
     }
 
--- one more row at the end of the first ones
-front_leads : (before : List Row) (row : Row) (held next : List Entry) → Leads (moves_of before) [] held → Leads (added_by row ∷ []) held next
-    → Leads (moves_of (before ++ row ∷ [])) [] next
-front_leads before row held next first one =
-    subst (λ l. Leads l [] next) (sym (moves_append before (row ∷ []))) (leads_both (moves_of before) (added_by row ∷ []) [] held next first one)
+module _ {row : Row} {less more after : List Row} {place : ℕ} {held : List Entry} (s : Seam row less more after place held) where
+  -- the rows with it lead on by its move
+  with_row : (next : List Entry) → Leads (added_by row ∷ []) held next → Parted more after (suc place) next
+  with_row next one = record {
+    front = s.without.front ++ row ∷ [];
+    is = s.is ∙ sym (append_assoc s.without.front (row ∷ []) after);
+    size = omega (arith, length-append s.without.front (row ∷ []), s.without.size);
+    leads = rows_lead s.without.front (row ∷ []) [] held next s.without.leads one;
+    of_kind = s.of_kind;
+  }
 
-front_length : (before : List Row) (row : Row) → length (before ++ row ∷ []) ≡ suc (length before)
-front_length before row = omega (arith, length-append before (row ∷ []))
+  -- a row that adds joins the rows with it and without it
+  pub junction_added : (e : Entry) → added_by row ≡ Some e → Junction e held after less more place (suc place)
+  junction_added e adds =
+      let ready : Ready held (Some e ∷ moves_of after) = subst (λ m. Ready held (m ∷ moves_of after)) adds s.ready in
+      record {
+        poorer = s.without;
+        richer = with_row (with_entry e held) (subst (λ m. Leads (m ∷ []) held (with_entry e held)) (sym adds) refl);
+        ready = ready_on e (moves_of after) held ready;
+        absent = new_here e (moves_of after) held ready;
+        never = ready.once.0;
+      }
 
--- a row that adds joins the rows with it and without it
-pub junction_added : (before : List Row) (row : Row) (after : List Row) (e : Entry) → Seam before row after → added_by row ≡ Some e
-    → Junction e (survivors before) after (before ++ after) (before ++ row ∷ after) (length before) (suc (length before))
-junction_added before row after e seam adds =
-    let ready : Ready (survivors before) (Some e ∷ moves_of after) = subst (λ m. Ready (survivors before) (m ∷ moves_of after)) adds seam.ready in
-    record {
-      poor_front = before;
-      rich_front = before ++ row ∷ [];
-      poor_is = refl;
-      rich_is = sym (append_assoc before (row ∷ []) after);
-      poor_length = refl;
-      rich_length = front_length before row;
-      poor_leads = seam.first;
-      rich_leads = front_leads before row (survivors before) (with_entry e (survivors before)) seam.first
-          (subst (λ m. Leads (m ∷ []) (survivors before) (with_entry e (survivors before))) (sym adds) refl);
-      poor_kind = all_without (λ r. kind_of r.op ≡ Pq) before row after seam.of_kind;
-      rich_kind = seam.of_kind;
-      ready = record { rising = ready.rising; once = ready.once.1; apart = λ x inside added. ready.apart x inside (inr added) };
-      absent = new_here e (moves_of after) (survivors before) ready;
-      never = ready.once.0;
-    }
-
--- a row that takes joins the rows without it and with it
-pub junction_taken : (before : List Row) (row : Row) (after : List Row) (x : Entry) (held : List Entry) → Seam before row after → added_by row ≡ None
-    → survivors before ≡ x ∷ held
-    → Junction x held after (before ++ row ∷ after) (before ++ after) (suc (length before)) (length before)
-junction_taken before row after x held seam takes holds =
-    let first : Leads (moves_of before) [] (x ∷ held) = subst (Leads (moves_of before) []) holds seam.first in
-    let ready : Ready (x ∷ held) (None ∷ moves_of after) =
-    subst (λ l. Ready l (None ∷ moves_of after)) holds (subst (λ m. Ready (survivors before) (m ∷ moves_of after)) takes seam.ready) in
-    record {
-      poor_front = before ++ row ∷ [];
-      rich_front = before;
-      poor_is = sym (append_assoc before (row ∷ []) after);
-      rich_is = refl;
-      poor_length = front_length before row;
-      rich_length = refl;
-      poor_leads = front_leads before row (x ∷ held) held first (subst (λ m. Leads (m ∷ []) (x ∷ held) held) (sym takes) refl);
-      rich_leads = subst (Leads (moves_of before) []) (sym (with_above x held ready.rising.0)) first;
-      poor_kind = seam.of_kind;
-      rich_kind = all_without (λ r. kind_of r.op ≡ Pq) before row after seam.of_kind;
-      ready = record { rising = ready.rising.1; once = ready.once; apart = λ y inside. ready.apart y (inr inside) };
-      absent = first_once x held ready.rising.0;
-      never = ready.apart x (inl refl);
-    }
+  -- a row that takes joins the rows without it and with it
+  pub junction_taken : (x : Entry) (rest : List Entry) → added_by row ≡ None → held ≡ x ∷ rest → Junction x rest after more less (suc place) place
+  junction_taken x rest takes holds =
+      let ready : Ready (x ∷ rest) (None ∷ moves_of after) = subst (λ l. Ready l (None ∷ moves_of after)) holds (subst (λ m. Ready held (m ∷ moves_of after)) takes s.ready) in
+      record {
+        poorer = with_row rest (subst (λ m. Leads (m ∷ []) held rest) (sym takes) (subst (λ l. Leads (None ∷ []) l rest) (sym holds) refl));
+        richer = subst (Parted less after place) (holds ∙ sym (with_above x rest ready.rising.0)) s.without;
+        ready = ready_taken x (moves_of after) rest ready;
+        absent = first_once x rest ready.rising.0;
+        never = ready.apart x (inl refl);
+      }

@@ -9,6 +9,7 @@ use Rattle.std.specs.Result.{result_err}
 use Rattle.retro_base.specs.declared.kind.Kind.TheVariants.{Pq}
 use Rattle.retro_base.specs.declared.row.Entry.{Entry}
 use Rattle.retro_base.specs.declared.row.Row.{Row}
+use Rattle.retro_base.specs.Better.{comes_after}
 use Rattle.retro_base.specs.State.{comes_before}
 use Rattle.retro_base.specs.Edits.{Edit, add, cut, edited, IsAccepted}
 use Rattle.retro_base.specs.Bridges.{entries_at, survivors, IsBridge, IsFirstBridge}
@@ -22,13 +23,14 @@ use Rattle.retro_base.specs.lemmas.bridges.Added.{added_adds, adds_added}
 use Rattle.retro_base.specs.lemmas.bridges.EntryOrder.{before_irreflexive, before_one_way}
 use Rattle.retro_base.specs.lemmas.bridges.Entries.{In, in_or_not, above_in, contains_in, in_contains}
 use Rattle.retro_base.specs.lemmas.bridges.Moves.{Leads, Adds, AddEachOnce, Ready, came_from, adds_second}
-use Rattle.retro_base.specs.lemmas.bridges.Histories.{moves_of, history_at, whole_ready, fails_run}
-use Rattle.retro_base.specs.lemmas.bridges.Chain.{at_most_both}
+use Rattle.retro_base.specs.lemmas.bridges.Histories.{moves_of, history_at, whole_ready, fails_run, none_some}
+use Rattle.retro_base.specs.lemmas.bridges.Best.{best_alone, after_is_order}
+use Rattle.retro_base.specs.lemmas.bridges.Junctions.{seam_of_add, seam_of_cut, junction_added, junction_taken}
 use Rattle.retro_base.specs.lemmas.bridges.Surviving.{poor_valid, kept_to_end}
 use Rattle.retro_base.specs.lemmas.bridges.Later.{one_joins}
 use Rattle.retro_base.specs.lemmas.bridges.Lost.{first_dead}
 use Rattle.retro_base.specs.lemmas.bridges.Losing.{Losing, losing_dead}
-use Rattle.retro_base.specs.lemmas.bridges.EditJunctions.{join_added_take, join_cut_entry, added_take_fails}
+use Rattle.retro_base.specs.lemmas.bridges.EditJunctions.{added_take_fails}
 
 -- the survivors that were added before a bridge are the entries that it holds
 pub held_before : (rows : List Row) (bridge : ℕ) (x : Entry) → IsPqHistory rows → IsBridge rows bridge → In x (entries_at rows bridge) → IsSurvivorBefore rows bridge x
@@ -71,12 +73,6 @@ first_is_least rows bridge y rest history is_bridge holds =
       ];
     }
 
-least_is : (P : Entry → Type 0) (a b : Entry) → IsLeast P a → IsLeast P b → a ≡ b
-least_is P a b first second = at_most_both a b (first.unbeaten b second.one) (second.unbeaten a first.one)
-
-not_both : (o : Option ℕ) (i : ℕ) → o ≡ None → o ≡ Some i → ⊥
-not_both o i e f = cc
-
 -- so a line of the table follows
 table_line : (rows : List Row) (edit : Edit) (bridge index : ℕ) → IsPqHistory rows → IsBridge rows bridge → Losing (edited rows edit) rows bridge index → LosesAt rows edit bridge index
 table_line rows edit bridge index history is_bridge losing = elim losing [
@@ -86,28 +82,25 @@ table_line rows edit bridge index history is_bridge losing = elim losing [
         accepted = (λ accepted. (some.0, least.one), λ early. some.3);
         lost = λ entry accepted. (
           λ loses. subst (IsLeast (IsSurvivorBefore rows bridge)) (sym (one_joins entry some.0 (survivors (edited rows edit)) (survivors rows) loses some.4.joined)) least,
-          λ is_least. subst (λ x. Loses rows edit x) (least_is (IsSurvivorBefore rows bridge) some.0 entry least is_least) some.4,
+          λ is_least. subst (λ x. Loses rows edit x) (best_alone comes_after after_is_order (IsSurvivorBefore rows bridge) some.0 entry least is_least) some.4,
         );
         fails = λ nobody. absurd (nobody (some.0, least.one));
       }
   | inr none ↦
       let nobody : (entry : Entry) → IsSurvivorBefore rows bridge entry → ⊥ = λ entry early. subst (In entry) none.0 (before_held rows bridge entry history early) in
       record {
-        accepted = (λ accepted. absurd (not_both _ index accepted none.1), λ early. absurd (nobody early.0 early.1));
-        lost = λ entry accepted. absurd (not_both _ index accepted none.1);
+        accepted = (λ accepted. absurd (none_some _ accepted none.1), λ early. absurd (nobody early.0 early.1));
+        lost = λ entry accepted. absurd (none_some _ accepted none.1);
         fails = λ empty. none.1;
       }
 ]
-
-not_further : (b p : ℕ) → p ≤ b → ¬ (p < b) → b ≡ p
-not_further b p from after = omega arith
 
 -- a place that is a bridge is the first one from it on
 bridge_here : (rows : List Row) (place bridge : ℕ) → IsFirstBridge rows place bridge → IsBridge rows place → bridge ≡ place
 bridge_here rows place bridge first here =
     let from : place ≤ bridge = first.from in
     let not_after : ¬ (place < bridge) = λ after. first.first place (omega arith) after here in
-    not_further bridge place from not_after
+    omega arith
 
 pub cut_dead_loses : (rows : List Row) (place : ℕ) (row : Row) (entry : Entry) (bridge : ℕ) → IsPqEdit rows (cut place row) → added_by row ≡ Some entry
     → ¬ Contains (survivors rows) entry → IsFirstBridge rows (suc place) bridge → LosesAt rows (cut place row) bridge (bridge - 2)
@@ -115,18 +108,15 @@ cut_dead_loses rows place row entry bridge possible adds died first =
     let history = possible.history in
     let from : suc place ≤ bridge = first.from in
     table_line rows (cut place row) bridge (bridge - 2) history first.bridges
-    (losing_dead entry (entries_at rows place) (drop (suc place) rows) (edited rows (cut place row)) rows place (suc place)
-    (join_cut_entry rows place row entry possible adds) history.valid bridge first (bridge - 2) (λ inside. died (in_contains _ entry inside))
+    (losing_dead (junction_added (seam_of_cut rows place row possible) entry adds) history.valid bridge first (bridge - 2) (λ inside. died (in_contains _ entry inside))
     (λ i at. omega arith))
 
 pub cut_survivor_loses : (rows : List Row) (place : ℕ) (row : Row) (entry : Entry) → IsPqEdit rows (cut place row) → added_by row ≡ Some entry
     → Contains (survivors rows) entry → IsAccepted Pq rows (cut place row) × Loses rows (cut place row) entry
 cut_survivor_loses rows place row entry possible adds lives =
-    let j = join_cut_entry rows place row entry possible adds in
-    let inside : In entry (survivors rows) = contains_in _ entry lives in (
-      poor_valid entry (entries_at rows place) (drop (suc place) rows) (edited rows (cut place row)) rows place (suc place) j possible.history.valid inside,
-      kept_to_end entry (entries_at rows place) (drop (suc place) rows) (edited rows (cut place row)) rows place (suc place) j possible.history.valid inside,
-    )
+    let j = junction_added (seam_of_cut rows place row possible) entry adds in
+    let inside : In entry (survivors rows) = contains_in _ entry lives in
+    (poor_valid j possible.history.valid inside, kept_to_end j possible.history.valid inside)
 
 -- an added row that takes: nothing is held there, or what it takes is a survivor or dead
 all_alive_from_first : (x : Entry) (moves : List (Option Entry)) (held alive : List Entry) → Ready (x ∷ held) moves → Leads moves (x ∷ held) alive → In x alive → AllIn alive (x ∷ held)
@@ -139,7 +129,7 @@ losing_added : (rows : List Row) (place : ℕ) (row : Row) (bridge : ℕ) (x : E
     → IsFirstBridge rows place bridge → entries_at rows place ≡ x ∷ held → Losing (edited rows (add place row)) rows bridge bridge
 losing_added rows place row bridge x held possible takes first holds =
     let history = possible.history in
-    let j = join_added_take rows place row x held possible takes holds in
+    let j = junction_taken (seam_of_add rows place row possible) x held takes holds in
     let parts = history_at rows place history in
     let from : place ≤ bridge = first.from in
     elim (in_or_not x (survivors rows)) [
@@ -151,11 +141,10 @@ losing_added rows place row bridge x held possible takes first holds =
             x,
             held,
             ap (entries_at rows) here ∙ holds,
-            poor_valid x held (drop place rows) (edited rows (add place row)) rows (suc place) place j history.valid lives,
-            kept_to_end x held (drop place rows) (edited rows (add place row)) rows (suc place) place j history.valid lives,
+            poor_valid j history.valid lives,
+            kept_to_end j history.valid lives,
           )
-      | inr died ↦
-          losing_dead x held (drop place rows) (edited rows (add place row)) rows (suc place) place j history.valid bridge first bridge died (λ i at. omega arith)
+      | inr died ↦ losing_dead j history.valid bridge first bridge died (λ i at. omega arith)
     ]
 
 pub added_take_loses : (rows : List Row) (place : ℕ) (row : Row) (bridge : ℕ) → IsPqEdit rows (add place row) → added_by row ≡ None

@@ -12,10 +12,10 @@ use Rattle.retro_base.specs.Replay.{IsValid}
 use Rattle.retro_base.specs.Bridges.{entries_at, survivors}
 use Rattle.retro_base.specs.Changes.{Joins}
 use Rattle.retro_base.specs.lemmas.bridges.Entries.{In, with_in, in_with, with_first, with_later, with_swapped}
-use Rattle.retro_base.specs.lemmas.bridges.Moves.{Leads, Adds, Ready, ready_added, ready_taken, ready_with, taken_for_good, came_from, leads_both, adds_second}
-use Rattle.retro_base.specs.lemmas.bridges.Histories.{moves_of, moves_append, leads_survivors, leads_valid}
-use Rattle.retro_base.specs.lemmas.bridges.Junctions.{Junction}
-use Rattle.retro_base.specs.lemmas.bridges.After.{After, after_front, all_after, entries_after, moves_split, joins, ready_up_to}
+use Rattle.retro_base.specs.lemmas.bridges.Moves.{Leads, Adds, Ready, ready_added, ready_taken, taken_for_good, came_from, adds_second}
+use Rattle.retro_base.specs.lemmas.bridges.Histories.{moves_of, moves_split}
+use Rattle.retro_base.specs.lemmas.bridges.Junctions.{Junction, rich_ready}
+use Rattle.retro_base.specs.lemmas.bridges.After.{after_place, all_after, entries_after, valid_by, survivors_by, joins, ready_up_to}
 
 -- the same moves without the entry, and what they lead to
 pub record Without (c : Entry) (moves : List (Option Entry)) (held end : List Entry) : Type 0 where
@@ -52,38 +52,26 @@ kept (None ∷ moves) c (x ∷ held) end ready absent leads lives =
     kept_taken c x moves held end (comes_before c x) refl ready absent leads lives
     (λ prepared way. kept moves c held end prepared (λ inside. absent (inr inside)) way lives)
 
-module _ (entry : Entry) (held : List Entry) (after poor rich : List Row) (poor_place rich_place : ℕ)
+joins_without : {c : Entry} {moves : List (Option Entry)} {held end : List Entry} (w : Without c moves held end) (less : List Entry) → less ≡ w.less → Joins c less end
+joins_without {c} {moves} {held} {end} w less same =
+    joins c less end (subst (λ l. ¬ In c l) (sym same) w.absent) (w.one_more ∙ ap (with_entry c) (sym same))
+
+module _ {entry : Entry} {held : List Entry} {after poor rich : List Row} {poor_place rich_place : ℕ}
     (j : Junction entry held after poor rich poor_place rich_place) (valid : IsValid Pq rich) (lives : In entry (survivors rich)) where
-  rich_ready : Ready (with_entry entry held) (moves_of after)
-  rich_ready = ready_with entry (moves_of after) held j.ready j.absent j.never
-
   without_to_end : Without entry (moves_of after) held (survivors rich)
-  without_to_end =
-      kept (moves_of after) entry held (survivors rich) rich_ready j.absent
-      (all_after rich j.rich_front after (with_entry entry held) j.rich_is j.rich_kind valid j.rich_leads) lives
-
-  poor_to_end : Leads (moves_of poor) [] without_to_end.less
-  poor_to_end =
-      subst (λ l. Leads l [] without_to_end.less) (sym (ap moves_of j.poor_is ∙ moves_append j.poor_front after))
-      (leads_both (moves_of j.poor_front) (moves_of after) [] held without_to_end.less j.poor_leads without_to_end.leads)
+  without_to_end = kept (moves_of after) entry held (survivors rich) (rich_ready j) j.absent (all_after j.richer valid) lives
 
   -- the poorer rows replay whole, and their present is the other one without the entry
   pub poor_valid : IsValid Pq poor
-  poor_valid = leads_valid poor without_to_end.less j.poor_kind poor_to_end
+  poor_valid = valid_by j.poorer without_to_end.less without_to_end.leads
 
   pub kept_to_end : Joins entry (survivors poor) (survivors rich)
-  kept_to_end =
-      let same : survivors poor ≡ without_to_end.less = leads_survivors poor without_to_end.less j.poor_kind poor_to_end in
-      joins entry (survivors poor) (survivors rich) (subst (λ l. ¬ In entry l) (sym same) without_to_end.absent)
-      (without_to_end.one_more ∙ ap (with_entry entry) (sym same))
-
-  rich_after : (further : ℕ) → After rich after rich_place further (with_entry entry held)
-  rich_after further = after_front rich j.rich_front after rich_place further (with_entry entry held) j.rich_is j.rich_length j.rich_kind valid j.rich_leads
+  kept_to_end = joins_without without_to_end (survivors poor) (survivors_by j.poorer without_to_end.less without_to_end.leads)
 
   -- it is held until then
   still_held : (further : ℕ) → In entry (entries_at rich (rich_place + further))
   still_held further =
-      elim (came_from entry (moves_of (drop further after)) (entries_at rich (rich_place + further)) (survivors rich) (rich_after further).on lives) [
+      elim (came_from entry (moves_of (drop further after)) (entries_at rich (rich_place + further)) (survivors rich) (after_place j.richer valid further).on lives) [
         | inl there ↦ there
         | inr added ↦ absurd (j.never (subst (Adds entry) (sym (moves_split further after))
             (adds_second entry (moves_of (take further after)) (moves_of (drop further after)) added)))
@@ -92,6 +80,5 @@ module _ (entry : Entry) (held : List Entry) (after poor rich : List Row) (poor_
   pub kept_after : (further : ℕ) → Joins entry (entries_at poor (poor_place + further)) (entries_at rich (rich_place + further))
   kept_after further =
       let less = kept (moves_of (take further after)) entry held (entries_at rich (rich_place + further))
-      (ready_up_to further after (with_entry entry held) rich_ready) j.absent (rich_after further).up_to (still_held further) in
-      let same = entries_after poor j.poor_front after poor_place further held less.less j.poor_is j.poor_length j.poor_kind j.poor_leads less.leads in
-      joins entry _ _ (subst (λ l. ¬ In entry l) (sym same) less.absent) (less.one_more ∙ ap (with_entry entry) (sym same))
+      (ready_up_to further after (with_entry entry held) (rich_ready j)) j.absent (after_place j.richer valid further).up_to (still_held further) in
+      joins_without less (entries_at poor (poor_place + further)) (entries_after j.poorer further less.less less.leads)
