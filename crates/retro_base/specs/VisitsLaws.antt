@@ -98,10 +98,6 @@ digits-of_few : (digits 0 ≡ 1) × (digits 1 ≡ 1) × (digits 2 ≡ 2)
 unfolding digits
 digits-of_few = (refl, refl, refl)
 
--- two and more have two digits
-two_digits : (n : ℕ) → 2 ≤ n → 2 ≤ digits n
-two_digits n h = omega (arith, digits-monotone 2 n h, digits-of_few)
-
 -- one more has at most twice as many digits
 twice_the_digits : (n : ℕ) → digits (n + 1) ≤ digits n + digits n
 twice_the_digits n = omega (arith, digits-one_more n, digits-monotone 0 n (omega arith), digits-of_few)
@@ -117,22 +113,6 @@ visits-one_longer factor length before after visits = record {
     add-mul factor factor (digits (length + 1)),
     mul-add factor (digits (length + 1)) (digits (length + 1)),
   );
-}
-
--- an item that is put in, a growth that is refused, which visits nothing where nothing is there, and the item taken out again
-pub visits-taken_back : (length start put refused back : ℕ)
-    → VisitsWithin 12 (length + 1) start put
-    → VisitsWithin 12 length put refused
-    → (length ≡ 0 → refused ≡ put)
-    → VisitsWithin 12 (length + 1) refused back
-    → VisitsWithin 48 length start back
-visits-taken_back zero start put refused back first second none third = record {
-  none_lost = omega (arith, first.none_lost, second.none_lost, third.none_lost);
-  few = omega (arith, first.few, none refl, third.few, digits-of_few);
-}
-visits-taken_back (suc length) start put refused back first second none third = record {
-  none_lost = omega (arith, first.none_lost, second.none_lost, third.none_lost);
-  few = omega (arith, first.few, second.few, third.few, digits-one_more (suc length + 1), two_digits (suc length + 1) (omega arith));
 }
 
 -- worked out by hand

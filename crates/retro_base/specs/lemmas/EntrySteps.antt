@@ -15,22 +15,12 @@ use Rattle.retro_base.specs.Bridges.{is_among, same_entry}
 use Rattle.retro_base.specs.EntriesInOrder.{AreInOrder}
 use Rattle.retro_base.specs.State.{entries, perform, comes_before, with_entry}
 use Rattle.retro_base.specs.OrderLaws.{all_weaker}
-use Rattle.retro_base.specs.lemmas.bridges.EntryOrder.{before_irreflexive, before_transitive, before_one_way, before_or_after, same_or_other, same_entry-refl, not_same}
+use Rattle.retro_base.specs.lemmas.bridges.EntryOrder.{before_irreflexive, before_one_way, front_before, before_or_after, same_or_other, same_entry-refl, not_same}
 use Rattle.retro_base.specs.lemmas.bridges.Entries.{with_first, with_later, not_before}
 
 -- what does not come before an entry does not come before a lesser one
 pub after_lesser : (y x e : Entry) → comes_before y x ≡ false → comes_before e x ≡ true → comes_before y e ≡ false
 after_lesser y x e after lesser = not_before e y x lesser after
-
--- what stands in front of an entry that comes before another one comes before it too
-front_before : (y x e : Entry) → comes_before y x ≡ false → comes_before y e ≡ true → comes_before x e ≡ true
-front_before y x e after before = elim (same_or_other x e) [
-  | inl same ↦ let wrong : true ≡ false = sym before ∙ rw same at after in absurd (cc)
-  | inr other ↦ elim (comes_before x e) as (λ b. comes_before x e ≡ b → b ≡ true) [
-    | true ↦ λ yes. refl
-    | false ↦ λ no. sym after ∙ before_transitive y e x before (before_or_after x e other no)
-  ] refl
-]
 
 all_get : (P : Entry → Type 0) (xs : List Entry) (i : ℕ) (d : Entry) → AllByRecursion P xs → i < length xs → P (slice_index_or xs i d)
 all_get P [] i d all within = absurd (omega arith)

@@ -1,6 +1,6 @@
 -- The best of an entry and those that rows show: what the fold over the rows comes to, as the greatest dead entry and the least
 -- survivor of the table.
-use Rattle.std.proofs.Common.{◌≡◌, ℕ, Bool, true, false, List, [], ◌∷◌, take, drop, cond, ◌⊎◌, inl, inr, refl, sym, ap, ◌∙◌, Option, Some, None}
+use Rattle.std.proofs.Common.{◌≡◌, ℕ, Bool, true, false, List, [], ◌∷◌, take, drop, cond, ◌⊎◌, inl, inr, refl, sym, ap, subst, ◌∙◌, Option, Some, None}
 use Rattle.std.specs.Prelude.{map}
 use Rattle.std.specs.List.{AllByRecursion, cons_option}
 use Rattle.std.specs.Option.{MatchOption}
@@ -58,45 +58,44 @@ module _ (beaten : Entry → Entry → Bool) (order : IsOrder beaten) where
   one_best P (Some a) None first second = absurd (second a first.one)
   one_best P (Some a) (Some b) first second = ap (λ e. Some e) (best_alone P a b first second)
 
-  -- one more entry
-  better_by : (P : Entry → Type 0) (b x : Entry) → IsBest beaten P b → (t : Bool) → beaten b x ≡ t → IsBest beaten (λ e. P e ⊎ (e ≡ x)) (cond t x b)
-  better_by P b x best true beats = record {
-    one = inr refl;
-    unbeaten = λ other which. elim which [
-      | inl early ↦ order.further x b other (order.one_way b x beats) (best.unbeaten other early)
-      | inr same ↦ rw same (order.irreflexive x)
-    ];
+  -- the better one of two
+  better_one : (P Q : Entry → Type 0) (a b : Entry) → IsBest beaten P a → IsBest beaten Q b → (t : Bool) → beaten a b ≡ t → IsBest beaten (λ e. P e ⊎ Q e) (cond t b a)
+  better_one P Q a b first second true beats = record {
+    one = inr second.one;
+    unbeaten = λ other which. elim which [ inl is ↦ order.further b a other (order.one_way a b beats) (first.unbeaten other is) | inr is ↦ second.unbeaten other is ];
   }
-  better_by P b x best false stays = record {
-    one = inl best.one;
-    unbeaten = λ other which. elim which [ inl early ↦ best.unbeaten other early | inr same ↦ rw same stays ];
+  better_one P Q a b first second false stays = record {
+    one = inl first.one;
+    unbeaten = λ other which. elim which [ inl is ↦ first.unbeaten other is | inr is ↦ order.further a b other stays (second.unbeaten other is) ];
   }
 
-  better : (P : Entry → Type 0) (found : Option Entry) (x : Entry) → FindsBest beaten P found → FindsBest beaten (λ e. P e ⊎ (e ≡ x)) (better_of beaten found (Some x))
-  better P None x none = record {
-    one = inr refl;
-    unbeaten = λ other which. elim which [ inl early ↦ absurd (none other early) | inr same ↦ rw same (order.irreflexive x) ];
+  -- of two that may be there
+  better : (P Q : Entry → Type 0) (a b : Option Entry) → FindsBest beaten P a → FindsBest beaten Q b → FindsBest beaten (λ e. P e ⊎ Q e) (better_of beaten a b)
+  better P Q None None first second = λ e has. elim has [ inl is ↦ first e is | inr is ↦ second e is ]
+  better P Q (Some a) None first second = record {
+    one = inl first.one;
+    unbeaten = λ other which. elim which [ inl is ↦ first.unbeaten other is | inr is ↦ absurd (second other is) ];
   }
-  better P (Some b) x best = better_by P b x best (beaten b x) refl
+  better P Q None (Some b) first second = record {
+    one = inr second.one;
+    unbeaten = λ other which. elim which [ inl is ↦ absurd (first other is) | inr is ↦ second.unbeaten other is ];
+  }
+  better P Q (Some a) (Some b) first second = better_one P Q a b first second (beaten a b) refl
+
+  -- of what is one alone
+  best_itself : (found : Option Entry) → FindsBest beaten (λ e. found ≡ Some e) found
+  best_itself None = λ e is. cc
+  best_itself (Some x) = record { one = refl; unbeaten = λ other is. let same : x ≡ other = cc in subst (λ y. beaten x y ≡ false) same (order.irreflexive x) }
 
   -- so the fold over the rows finds the best
   best_of : {R : Type 0} (shown : R → Option Entry) (rows : List R) (P : Entry → Type 0) (before : Option Entry) → FindsBest beaten P before
       → FindsBest beaten (λ e. P e ⊎ Shown shown rows e) (best_among beaten shown before rows)
   best_of shown [] P before best = best_same P (λ e. P e ⊎ ⊥) before (λ e has. inl has) (λ e has. elim has [ inl early ↦ early | inr none ↦ absurd none ]) best
   best_of shown (row ∷ rows) P before best =
-      elim (shown row) as (λ o. shown row ≡ o → FindsBest beaten (λ e. P e ⊎ ((shown row ≡ Some e) ⊎ Shown shown rows e)) (best_among beaten shown (better_of beaten before o) rows)) [
-        | None ↦ λ none. best_same (λ e. P e ⊎ Shown shown rows e) (λ e. P e ⊎ ((shown row ≡ Some e) ⊎ Shown shown rows e)) _
-            (λ e has. elim has [ inl early ↦ inl early | inr later ↦ inr (inr later) ])
-            (λ e has. elim has [ inl early ↦ inl early | inr shows ↦ elim shows [ inl here ↦ absurd (cc) | inr later ↦ inr later ] ])
-            (best_of shown rows P before best)
-        | Some x ↦ λ is. best_same (λ e. (P e ⊎ (e ≡ x)) ⊎ Shown shown rows e) (λ e. P e ⊎ ((shown row ≡ Some e) ⊎ Shown shown rows e)) _
-            (λ e has. elim has [ inl early ↦ elim early [ inl old ↦ inl old | inr same ↦ inr (inl (rw same is)) ] | inr later ↦ inr (inr later) ])
-            (λ e has. elim has [
-              | inl early ↦ inl (inl early)
-              | inr shows ↦ elim shows [ inl here ↦ inl (inr (let same : e ≡ x = cc in same)) | inr later ↦ inr later ]
-            ])
-            (best_of shown rows (λ e. P e ⊎ (e ≡ x)) (better_of beaten before (Some x)) (better P before x best))
-      ] refl
+      best_same (λ e. (P e ⊎ (shown row ≡ Some e)) ⊎ Shown shown rows e) (λ e. P e ⊎ ((shown row ≡ Some e) ⊎ Shown shown rows e)) _
+      (λ e has. elim has [ inl early ↦ elim early [ inl old ↦ inl old | inr here ↦ inr (inl here) ] | inr later ↦ inr (inr later) ])
+      (λ e has. elim has [ inl old ↦ inl (inl old) | inr shows ↦ elim shows [ inl here ↦ inl (inr here) | inr later ↦ inr later ] ])
+      (best_of shown rows (λ e. P e ⊎ (shown row ≡ Some e)) (better_of beaten before (shown row)) (better P (λ e. shown row ≡ Some e) before (shown row) best (best_itself (shown row))))
 
   -- in the words of another property
   pub best_found : {R : Type 0} (shown : R → Option Entry) (rows : List R) (Q : Entry → Type 0)
@@ -111,17 +110,7 @@ module _ (beaten : Entry → Entry → Bool) (order : IsOrder beaten) where
 
   -- and the better one of it and an entry is the best of both
   pub best_with : (Q : Entry → Type 0) (new : Entry) (found : Option Entry) → FindsBest beaten Q found → FindsBest beaten (λ e. (e ≡ new) ⊎ Q e) (better_of beaten (Some new) found)
-  best_with Q new None none = record {
-    one = inl refl;
-    unbeaten = λ other which. elim which [ inl same ↦ rw same (order.irreflexive new) | inr is ↦ absurd (none other is) ];
-  }
-  best_with Q new (Some x) best = elim (beaten new x) as (λ t. beaten new x ≡ t → IsBest beaten (λ e. (e ≡ new) ⊎ Q e) (cond t x new)) [
-    | true ↦ λ beats. record { one = inr best.one; unbeaten = λ other which. elim which [ inl same ↦ rw same (order.one_way new x beats) | inr is ↦ best.unbeaten other is ] }
-    | false ↦ λ stays. record {
-      one = inl refl;
-      unbeaten = λ other which. elim which [ inl same ↦ rw same (order.irreflexive new) | inr is ↦ order.further new x other stays (best.unbeaten other is) ];
-    }
-  ] refl
+  best_with Q new found best = better (λ e. e ≡ new) Q (Some new) found (record { one = refl; unbeaten = λ other same. rw same (order.irreflexive new) }) best
 
 -- no entry is no better than another
 pub better_none : (beaten : Entry → Entry → Bool) (found : Option Entry) → better_of beaten None found ≡ found

@@ -7,7 +7,7 @@ use Rattle.std.proofs.Common.{◌≡◌, ◌≢◌, List, [], ◌∷◌, true, f
 use Rattle.retro_base.specs.declared.row.Entry.{Entry}
 use Rattle.retro_base.specs.State.{comes_before, with_entry}
 use Rattle.retro_base.specs.lemmas.bridges.EntryOrder.{before_irreflexive, before_or_after}
-use Rattle.retro_base.specs.lemmas.bridges.Entries.{In, Above, first_once, with_in, in_with, with_first, with_later, with_above, with_swapped, not_before}
+use Rattle.retro_base.specs.lemmas.bridges.Entries.{In, first_once, with_in, in_with, with_first, with_later, with_above, with_swapped, not_before}
 use Rattle.retro_base.specs.lemmas.bridges.Moves.{Leads, Adds, Ready, ready_added, ready_taken}
 
 -- no entry of these comes after this one
@@ -44,46 +44,22 @@ carried_added e c moves held end other next = record {
   ];
 }
 
--- the carried entry is taken, and the one that was taken without it is carried on
-carried_exchanged : (c x : Entry) (moves : List (Option Entry)) (held end : List Entry) → Above x held → comes_before c x ≡ true
-    → Carried x moves held end → Carried c (None ∷ moves) (x ∷ held) end
-carried_exchanged c x moves held end above before next = record {
+-- a step that takes: the carried entry goes, and the one that is taken without it is carried on, or another one is taken with it and without it
+carried_taken : (c x y : Entry) (moves : List (Option Entry)) (held end : List Entry) (next : Carried y moves held end)
+    → Leads (None ∷ moves) (with_entry c (x ∷ held)) (with_entry next.last end) → AtMost c next.last → AtMost x next.last → (y ≡ c) ⊎ (y ≡ x)
+    → Carried c (None ∷ moves) (x ∷ held) end
+carried_taken c x y moves held end next leads least first which = record {
   last = next.last;
-  leads = subst (λ l. Leads (None ∷ moves) l (with_entry next.last end)) (sym (with_first c x held before))
-      (subst (λ l. Leads moves l (with_entry next.last end)) (with_above x held above) next.leads);
+  leads = leads;
   absent = next.absent;
-  least = not_before c next.last x before next.least;
-  greatest = λ y origin died. elim origin [
-    | inl there ↦ elim there [
-      | inl first ↦ subst (λ z. AtMost z next.last) (sym first) next.least
-      | inr further ↦ next.greatest y (inl further) died
-    ]
-    | inr added ↦ next.greatest y (inr added) died
+  least = least;
+  greatest = λ z origin died. elim origin [
+    | inl there ↦ elim there [ inl same ↦ subst (λ e. AtMost e next.last) (sym same) first | inr further ↦ next.greatest z (inl further) died ]
+    | inr added ↦ next.greatest z (inr added) died
   ];
   among = elim next.among [
-    | inl same ↦ inr (inl (inl same))
-    | inr origin ↦ elim origin [ inl there ↦ inr (inl (inr there)) | inr added ↦ inr (inr added) ]
-  ];
-}
-
--- another entry is taken, with the carried one and without it
-carried_on : (c x : Entry) (moves : List (Option Entry)) (held end : List Entry) → comes_before c x ≡ false → comes_before x c ≡ true
-    → Carried c moves held end → Carried c (None ∷ moves) (x ∷ held) end
-carried_on c x moves held end later after next = record {
-  last = next.last;
-  leads = subst (λ l. Leads (None ∷ moves) l (with_entry next.last end)) (sym (with_later c x held later)) next.leads;
-  absent = next.absent;
-  least = next.least;
-  greatest = λ y origin died. elim origin [
-    | inl there ↦ elim there [
-      | inl first ↦ subst (λ z. AtMost z next.last) (sym first) (not_before x next.last c after next.least)
-      | inr further ↦ next.greatest y (inl further) died
-    ]
-    | inr added ↦ next.greatest y (inr added) died
-  ];
-  among = elim next.among [
-    | inl same ↦ inl same
-    | inr origin ↦ elim origin [ inl there ↦ inr (inl (inr there)) | inr added ↦ inr (inr added) ]
+    | inl same ↦ elim which [ inl own ↦ inl (same ∙ own) | inr taken ↦ inr (inl (inl (same ∙ taken))) ]
+    | inr origin ↦ inr (elim origin [ inl there ↦ inl (inr there) | inr added ↦ inr added ])
   ];
 }
 
@@ -105,8 +81,14 @@ carried (Some e ∷ moves) c held end ready absent never leads =
 carried (None ∷ moves) c [] end ready absent never leads = absurd leads
 carried (None ∷ moves) c (x ∷ held) end ready absent never leads =
     elim (comes_before c x) as (λ t. comes_before c x ≡ t → Carried c (None ∷ moves) (x ∷ held) end) [
-      | true ↦ λ before. carried_exchanged c x moves held end ready.rising.0 before
-          (carried moves x held end (ready_taken x moves held ready) (first_once x held ready.rising.0) (ready.apart x (inl refl)) leads)
-      | false ↦ λ later. carried_on c x moves held end later (before_or_after c x (λ same. absent (inl same)) later)
-          (carried moves c held end (ready_taken x moves held ready) (λ inside. absent (inr inside)) never leads)
+      | true ↦ λ before.
+          let next = carried moves x held end (ready_taken x moves held ready) (first_once x held ready.rising.0) (ready.apart x (inl refl)) leads in
+          carried_taken c x x moves held end next
+          (subst (λ l. Leads (None ∷ moves) l (with_entry next.last end)) (sym (with_first c x held before))
+          (subst (λ l. Leads moves l (with_entry next.last end)) (with_above x held ready.rising.0) next.leads))
+          (not_before c next.last x before next.least) next.least (inr refl)
+      | false ↦ λ later.
+          let next = carried moves c held end (ready_taken x moves held ready) (λ inside. absent (inr inside)) never leads in
+          carried_taken c x c moves held end next (subst (λ l. Leads (None ∷ moves) l (with_entry next.last end)) (sym (with_later c x held later)) next.leads)
+          next.least (not_before x next.last c (before_or_after c x (λ same. absent (inl same)) later) next.least) (inl refl)
     ] refl

@@ -2,7 +2,7 @@
 -- all, and places that are no bridges hold a dead entry.
 --
 --     bridge | add 4 | add 6 | take 4 | place      4 is dead, and the dead 6 is greater and still held
-use Rattle.std.proofs.Common.{◌≡◌, ℕ, zero, suc, ◌<◌, List, [], ◌∷◌, take, ◌⊎◌, inl, inr, refl, sym, arith, subst, Option, Some, None}
+use Rattle.std.proofs.Common.{ℕ, zero, suc, ◌<◌, List, [], ◌∷◌, take, ◌⊎◌, inl, inr, refl, sym, arith, subst, Option, Some, None}
 use Rattle.retro_base.specs.declared.row.Entry.{Entry}
 use Rattle.retro_base.specs.State.{with_entry}
 use Rattle.retro_base.specs.lemmas.bridges.Bridging.{AllIn, some_dead}

@@ -3,7 +3,7 @@
 --
 --     old   before |       | after
 --     new   before | ins 2 | after      the edit gives: the new rows hold the 2 more
-use Rattle.std.proofs.Common.{◌≡◌, ℕ, suc, ◌<◌, ◌≤◌, true, false, not, is_some, List, [], ◌∷◌, ◌++◌, length, take, drop, length-take-le, ◌⊎◌, inl, inr, refl, ap, sym, arith, subst, Some, None}
+use Rattle.std.proofs.Common.{◌≡◌, ℕ, suc, true, false, not, is_some, List, [], ◌∷◌, ◌++◌, take, drop, length-take-le, ◌⊎◌, inl, inr, refl, sym, arith, subst, Some, None}
 use Rattle.std.specs.Prelude.{slice_get}
 use Rattle.retro_base.specs.declared.kind.Kind.TheVariants.{Pq}
 use Rattle.retro_base.specs.declared.row.Entry.{Entry}

@@ -1,6 +1,6 @@
 -- What an edit carries: after an edit that gives the new states have one entry more, and after any other accepted edit
 -- the old states have one more.
-use Rattle.std.proofs.Common.{◌≡◌, ℕ, suc, ◌+◌, ◌≤◌, Bool, true, false, List, [], length, length-append, drop, arith, inl, inr, refl, ap, sym, subst, Some}
+use Rattle.std.proofs.Common.{◌≡◌, ℕ, suc, ◌+◌, ◌≤◌, Bool, true, false, List, [], length, length-append, arith, inl, inr, refl, ap, sym, subst, Some}
 use Rattle.std.specs.Prelude.{slice_get}
 use Rattle.retro_base.specs.Weights.{added_by}
 use Rattle.retro_base.specs.declared.kind.Kind.TheVariants.{Pq}

@@ -4,6 +4,8 @@
 use Rattle.std.proofs.Common.{◌≡◌, ◌≢◌, zero, suc, ◌<◌, Bool, true, false, List, [], ◌∷◌, length, ◌⊎◌, inl, inr, refl, ap, sym, ◌∙◌, arith, cond}
 use Rattle.std.specs.Prelude.{Contains, slice_index_or}
 use Rattle.std.specs.List.{AllByRecursion}
+use Rattle.std.proofs.lemmas.Bool.Decides.{nat_tests}
+use Rattle.std.proofs.lemmas.Int.{ints}
 use Rattle.retro_base.specs.declared.row.Entry.{Entry}
 use Rattle.retro_base.specs.State.{comes_before, with_entry}
 use Rattle.retro_base.specs.lemmas.bridges.EntryOrder.{before_irreflexive, before_transitive, before_or_after, before_one_way, same_or_other}
@@ -109,10 +111,7 @@ with_above e (x ∷ xs) above = with_first e x xs above.0
 
 -- what is after a later entry is after an earlier one
 pub not_before : (a b x : Entry) → comes_before a x ≡ true → comes_before b x ≡ false → comes_before b a ≡ false
-not_before a b x first later = elim (comes_before b a) as (λ t. comes_before b a ≡ t → t ≡ false) [
-  | true ↦ λ before. sym (before_transitive b a x before first) ∙ later
-  | false ↦ λ after. refl
-] refl
+not_before a b x first later = grind (arith, ints, nat_tests)
 
 -- two more entries can come in either order: both before the others, both after the first of them, or on its two sides
 swapped_first : (a b : Entry) (xs : List Entry) → a ≢ b → with_entry a xs ≡ a ∷ xs → with_entry b xs ≡ b ∷ xs → with_entry a (b ∷ xs) ≡ with_entry b (a ∷ xs)

@@ -2,7 +2,7 @@
 -- dead entry is held at the last bridge before it, and those that were taken between are outlived by a greater dead one.
 --
 --     bridge ... place | taken entries ...      gained: the greatest dead entry from the bridge on
-use Rattle.std.proofs.Common.{◌≡◌, ℕ, suc, ◌+◌, ◌-◌, ◌<◌, ◌≤◌, List, [], ◌∷◌, ◌++◌, length, take, drop, ◌⊎◌, inl, inr, refl, ap, sym, ◌∙◌, arith, subst, Some, None}
+use Rattle.std.proofs.Common.{◌≡◌, ℕ, suc, ◌+◌, ◌-◌, ◌<◌, ◌≤◌, List, ◌∷◌, ◌++◌, length, take, drop, ◌⊎◌, inl, inr, ap, sym, ◌∙◌, arith, subst, Some, None}
 use Rattle.std.specs.Prelude.{◌↔◌}
 use Rattle.std.proofs.lemmas.List.{drop-drop, take-map}
 use Rattle.std.proofs.lemmas.Option.{slice_get_within}

@@ -2,7 +2,7 @@
 -- A row that adds leaves the carried entry as it is.
 --
 --     held and c | take ...    and then    rest and d | ...
-use Rattle.std.proofs.Common.{◌≡◌, ◌≢◌, ℕ, suc, ◌+◌, ◌≤◌, List, [], ◌∷◌, ◌++◌, length, take, drop, inl, inr, refl, ap, sym, ◌∙◌, subst, Some}
+use Rattle.std.proofs.Common.{◌≡◌, ◌≢◌, ℕ, suc, ◌+◌, ◌≤◌, List, [], ◌∷◌, length, take, drop, inl, inr, refl, ap, sym, ◌∙◌, subst, Some}
 use Rattle.std.specs.Prelude.{slice_get}
 use Rattle.retro_base.specs.declared.kind.Kind.TheVariants.{Pq}
 use Rattle.retro_base.specs.declared.row.Entry.{Entry}
@@ -13,7 +13,7 @@ use Rattle.retro_base.specs.Bridges.{entries_at}
 use Rattle.retro_base.specs.Changes.{Joins}
 use Rattle.retro_base.specs.PrefixLaws.{take_next}
 use Rattle.retro_base.specs.Weights.{added_by}
-use Rattle.retro_base.specs.lemmas.bridges.Entries.{In, with_in, in_with, in_contains, contains_in, with_swapped}
+use Rattle.retro_base.specs.lemmas.bridges.Entries.{In, with_in, in_with, in_contains, with_swapped}
 use Rattle.retro_base.specs.lemmas.bridges.Moves.{Leads, Adds, Ready, ready_later}
 use Rattle.retro_base.specs.lemmas.bridges.Histories.{moves_of, moves_split, rows_lead}
 use Rattle.retro_base.specs.lemmas.bridges.Junctions.{Parted, Junction, rich_ready, row_at}

@@ -1,6 +1,6 @@
 -- What the rows without an entry come to: from the first bridge on the least entry that is held there is missing to the end,
 -- or, where none is held there, they fail at the row that ended at the bridge.
-use Rattle.std.proofs.Common.{◌≡◌, ℕ, suc, ◌+◌, ◌-◌, ◌≤◌, List, [], ◌∷◌, ◌++◌, length, take, drop, length-append, ◌⊎◌, inl, inr, refl, ap, sym, ◌∙◌, arith, subst, Some}
+use Rattle.std.proofs.Common.{◌≡◌, ℕ, suc, ◌+◌, ◌-◌, ◌≤◌, List, [], ◌∷◌, ◌++◌, length, take, drop, length-append, ◌⊎◌, inl, inr, ap, sym, ◌∙◌, arith, subst, Some}
 use Rattle.std.specs.Result.{result_err}
 use Rattle.std.proofs.lemmas.List.{take-map}
 use Rattle.retro_base.specs.declared.kind.Kind.TheVariants.{Pq}

@@ -33,16 +33,12 @@ NoneBefore n moves held alive = (k : ℕ) (next : List Entry) → k < n → Lead
 abbrev pub Lost : ℕ → List (Option Entry) → List Entry → List Entry → Type 0
 Lost n moves held end = ((i : ℕ) × (suc i ≡ n) × (end ≡ []) × FailsAt moves held i) ⊎ ((y : Entry) × (rest : List Entry) × (end ≡ y ∷ rest) × Leads (take n moves) held rest)
 
-lost_later_added : (n : ℕ) (e : Entry) (moves : List (Option Entry)) (held end : List Entry) → Lost n moves (with_entry e held) end → Lost (suc n) (Some e ∷ moves) held end
-lost_later_added n e moves held end lost = elim lost [
-  | inl none ↦ inl (suc none.0, ap suc none.1, none.2, none.3)
-  | inr some ↦ inr (some.0, some.1, some.2, some.3)
-]
-
-lost_later_taken : (n : ℕ) (x : Entry) (moves : List (Option Entry)) (held end : List Entry) → Lost n moves held end → Lost (suc n) (None ∷ moves) (x ∷ held) end
-lost_later_taken n x moves held end lost = elim lost [
-  | inl none ↦ inl (suc none.0, ap suc none.1, none.2, none.3)
-  | inr some ↦ inr (some.0, some.1, some.2, some.3)
+lost_later : (n : ℕ) (move : Option Entry) (moves : List (Option Entry)) (held next end : List Entry)
+    → ((i : ℕ) → FailsAt moves next i → FailsAt (move ∷ moves) held (suc i)) → ((rest : List Entry) → Leads (take n moves) next rest → Leads (take (suc n) (move ∷ moves)) held rest)
+    → Lost n moves next end → Lost (suc n) (move ∷ moves) held end
+lost_later n move moves held next end fails leads lost = elim lost [
+  | inl none ↦ inl (suc none.0, ap suc none.1, none.2, fails none.0 none.3)
+  | inr some ↦ inr (some.0, some.1, some.2, leads some.1 some.3)
 ]
 
 -- what a proof by steps knows: the entry is dead, and the longer list leads by so many moves to a bridge, past none
@@ -124,13 +120,13 @@ pub lost : (n : ℕ) (moves : List (Option Entry)) (c : Entry) (held end alive :
 lost zero moves c held end alive m = absurd (m.died (all_in alive (with_entry c held) c (subst (AllIn alive) (sym m.up_to) m.bridge) (with_in c c held (inl refl))))
 lost (suc n) [] c held end alive m = absurd (m.died (subst (In c) m.on (with_in c c held (inl refl))))
 lost (suc n) (Some e ∷ moves) c held end alive m =
-    lost_later_added n e moves held end (lost n moves c (with_entry e held) end alive (missing_added n e moves c held end alive m))
+    lost_later n (Some e) moves held (with_entry e held) end (λ i fails. fails) (λ rest leads. leads) (lost n moves c (with_entry e held) end alive (missing_added n e moves c held end alive m))
 lost (suc n) (None ∷ moves) c [] end alive m = nothing_left n moves c end alive m
 lost (suc zero) (None ∷ moves) c (x ∷ held) end alive m = elim (comes_before c x) as (λ b. comes_before c x ≡ b → Lost (suc zero) (None ∷ moves) (x ∷ held) end) [
   | true ↦ λ before. last_taken x moves c held end alive before m
-  | false ↦ λ after. lost_later_taken zero x moves held end (lost zero moves c held end alive (missing_taken zero x moves c held end alive after m))
+  | false ↦ λ after. lost_later zero None moves (x ∷ held) held end (λ i fails. fails) (λ rest leads. leads) (lost zero moves c held end alive (missing_taken zero x moves c held end alive after m))
 ] refl
 lost (suc (suc n)) (None ∷ moves) c (x ∷ held) end alive m = elim (comes_before c x) as (λ b. comes_before c x ≡ b → Lost (suc (suc n)) (None ∷ moves) (x ∷ held) end) [
-  | true ↦ λ before. lost_later_taken (suc n) x moves held end (lost (suc n) moves x held end alive (missing_exchanged n x moves c held end alive before m))
-  | false ↦ λ after. lost_later_taken (suc n) x moves held end (lost (suc n) moves c held end alive (missing_taken (suc n) x moves c held end alive after m))
+  | true ↦ λ before. lost_later (suc n) None moves (x ∷ held) held end (λ i fails. fails) (λ rest leads. leads) (lost (suc n) moves x held end alive (missing_exchanged n x moves c held end alive before m))
+  | false ↦ λ after. lost_later (suc n) None moves (x ∷ held) held end (λ i fails. fails) (λ rest leads. leads) (lost (suc n) moves c held end alive (missing_taken (suc n) x moves c held end alive after m))
 ] refl

@@ -18,11 +18,12 @@ use Rattle.retro_base.specs.MarkedChange.{greatest_dead, least_survivor, lost, a
 use Rattle.retro_base.specs.MarkedChangeLaws.{IsRightOf}
 use Rattle.retro_base.specs.State.{comes_before}
 use Rattle.retro_base.specs.Weights.{added_as, added_by}
+use Rattle.retro_base.specs.lemmas.Counted.{of_kind_at}
 use Rattle.retro_base.specs.lemmas.bridges.Best.{FindsBest, before_is_order, best_with, better_none, greatest_found, least_found}
 use Rattle.retro_base.specs.lemmas.bridges.Tests.{is_among_in, in_is_among}
 use Rattle.retro_base.specs.lemmas.bridges.Entries.{contains_in, in_contains}
 use Rattle.retro_base.specs.lemmas.bridges.EditsCarry.{giving_accepted, presents_differ}
-use Rattle.retro_base.specs.lemmas.bridges.StatedBridges.{adds_or_takes, kind_there, one_bridge_stated, last_found, first_found}
+use Rattle.retro_base.specs.lemmas.bridges.StatedBridges.{adds_or_takes, one_bridge_stated, last_found, first_found}
 use Rattle.retro_base.specs.lemmas.bridges.Gained.{added_entry_gains, cut_take_gains}
 use Rattle.retro_base.specs.lemmas.bridges.LossTable.{added_take_loses, cut_dead_loses, cut_survivor_loses}
 
@@ -104,7 +105,7 @@ pub marks_tell : (rows : List Row) (edit : Edit) → IsPqEdit rows edit → IsRi
 marks_tell rows (add place row) possible =
     elim (adds_or_takes row.op possible.own_row.0) [ inl ins ↦ added_entry rows place row possible ins.0 ins.1 | inr takes ↦ added_take rows place row possible takes ]
 marks_tell rows (cut place row) possible =
-    elim (adds_or_takes row.op (kind_there rows place row possible.history.of_kind possible.within)) [
+    elim (adds_or_takes row.op (of_kind_at Pq rows place row possible.history.of_kind possible.within)) [
       | inl ins ↦ cut_entry rows place row possible ins.0 ins.1
       | inr takes ↦ cut_take rows place row possible takes
     ]

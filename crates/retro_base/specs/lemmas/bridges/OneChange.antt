@@ -4,7 +4,7 @@ use Rattle.std.proofs.Common.{◌≡◌, ◌≢◌, ℕ, Bool, true, false, not,
 use Rattle.std.specs.List.{find}
 use Rattle.std.proofs.lemmas.Option.{same_Some}
 use Rattle.retro_base.specs.declared.kind.Kind.{Kind}
-use Rattle.retro_base.specs.declared.kind.Kind.TheVariants.{Queue, Stack, Deque, Dict, Pq}
+use Rattle.retro_base.specs.declared.kind.Kind.TheVariants.{Pq}
 use Rattle.retro_base.specs.declared.row.Change.{Change}
 use Rattle.retro_base.specs.declared.row.Change.TheVariants.{Plain, Gain, Lose}
 use Rattle.retro_base.specs.declared.row.Entry.{Entry}
@@ -16,11 +16,12 @@ use Rattle.retro_base.specs.Bridges.{survivors, is_among, sought_for_added, soug
 use Rattle.retro_base.specs.Changes.{Joins, IsPqChange, first_beyond, change_at, change_of, pq_change_of}
 use Rattle.retro_base.specs.Carried.{IsPqEdit, gives, Differ}
 use Rattle.retro_base.specs.ChangeLaws.{IsTheChange}
+use Rattle.retro_base.specs.lemmas.Counted.{of_kind_at}
 use Rattle.retro_base.specs.lemmas.bridges.Entries.{In, with_in, in_contains}
 use Rattle.retro_base.specs.lemmas.bridges.Tests.{in_is_among, not_among}
 use Rattle.retro_base.specs.lemmas.bridges.Later.{one_joins}
 use Rattle.retro_base.specs.lemmas.bridges.EditsCarry.{presents_differ}
-use Rattle.retro_base.specs.lemmas.bridges.StatedBridges.{adds_or_takes, kind_there, one_bridge_stated}
+use Rattle.retro_base.specs.lemmas.bridges.StatedBridges.{adds_or_takes, one_bridge_stated}
 
 -- a test that one more entry passes alone finds it
 found_alone : (test : Entry → Bool) (e : Entry) (held : List Entry) → test e ≡ true → ((x : Entry) → In x held → test x ≡ false) → find test (with_entry e held) ≡ Some e
@@ -53,7 +54,7 @@ giving_states rows (add place row) possible gain = elim (adds_or_takes row.op po
   | inl ins ↦ (_, ap (λ op. bridge_found rows (sought_for_added op place)) ins.1)
   | inr takes ↦ let wrong : false ≡ true = sym (ap (λ op. is_some (added_as op row.number)) takes) ∙ gain in absurd (cc)
 ]
-giving_states rows (cut place row) possible gain = elim (adds_or_takes row.op (kind_there rows place row possible.history.of_kind possible.within)) [
+giving_states rows (cut place row) possible gain = elim (adds_or_takes row.op (of_kind_at Pq rows place row possible.history.of_kind possible.within)) [
   | inl ins ↦ let wrong : false ≡ true = sym (ap (λ op. not (is_some (added_as op row.number))) ins.1) ∙ gain in absurd (cc)
   | inr takes ↦ (_, ap (λ op. bridge_found rows (sought_for_cut rows op row.number place)) takes)
 ]
@@ -107,8 +108,5 @@ one_change_of_pq rows edit possible accepted =
     record { meets = meets; alone = λ other is_one. one_of_two rows edit possible other (change_of Pq rows edit) is_one meets }
 
 pub one_change_of_others : (kind : Kind) (rows : List Row) (edit : Edit) → kind ≢ Pq → IsTheChange kind rows edit (change_of kind rows edit)
-one_change_of_others Queue rows edit other_kind = record { meets = refl; alone = λ other same. same }
-one_change_of_others Stack rows edit other_kind = record { meets = refl; alone = λ other same. same }
-one_change_of_others Deque rows edit other_kind = record { meets = refl; alone = λ other same. same }
-one_change_of_others Dict rows edit other_kind = record { meets = refl; alone = λ other same. same }
 one_change_of_others Pq rows edit other_kind = absurd (other_kind refl)
+one_change_of_others kind rows edit other_kind = record { meets = refl; alone = λ other same. same }

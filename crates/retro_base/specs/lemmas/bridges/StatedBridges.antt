@@ -3,8 +3,7 @@
 use Rattle.std.proofs.Common.{◌≡◌, ℕ, ℤ, zero, suc, ◌+◌, ◌-◌, ◌<◌, ◌≤◌, true, false, List, [], ◌∷◌, length, cond, ◌⊎◌, inl, inr, refl, ap, sym, ◌∙◌, arith, subst, Option, Some, None}
 use Rattle.std.specs.Prelude.{Contains}
 use Rattle.std.specs.List.{AllByRecursion}
-use Rattle.std.specs.Prelude.{slice_get}
-use Rattle.std.proofs.lemmas.Option.{slice_get_within, same_Some}
+use Rattle.std.proofs.lemmas.Option.{slice_get_within}
 use Rattle.std.proofs.Math.Seq.{take-length}
 use Rattle.retro_base.specs.declared.kind.Kind.TheVariants.{Pq}
 use Rattle.retro_base.specs.declared.op.Op.{Op}
@@ -13,7 +12,6 @@ use Rattle.retro_base.specs.declared.row.Entry.{Entry}
 use Rattle.retro_base.specs.declared.row.Row.{Row}
 use Rattle.retro_base.specs.Kind.{kind_of}
 use Rattle.retro_base.specs.Replay.{fold_rows}
-use Rattle.retro_base.specs.Timeline.{AreOfKind}
 use Rattle.retro_base.specs.Edits.{Edit, add, cut}
 use Rattle.retro_base.specs.Bridges.{survivors, survives, IsBridge, is_bridge, IsLastBridge, IsFirstBridge, last_bridge, first_bridge, first_bridge_among}
 use Rattle.retro_base.specs.Bridges.{Sought, back_from, on_from, nowhere, sought, bridge_found, IsFound, stated_bridge}
@@ -28,9 +26,6 @@ pub adds_or_takes : (op : Op) → kind_of op ≡ Pq → ((key : ℤ) × (op ≡ 
 adds_or_takes (Ins k) of_kind = inl (k, refl)
 adds_or_takes DelMin of_kind = inr refl
 adds_or_takes op of_kind = absurd (cc)
-
-pub kind_there : (rows : List Row) (place : ℕ) (row : Row) → AreOfKind Pq rows → slice_get rows place ≡ Some row → kind_of row.op ≡ Pq
-kind_there rows place row of_kind at = of_kind_at Pq rows place row of_kind at
 
 pub same_or_less : (a b : ℕ) → a ≤ suc b → (a ≡ suc b) ⊎ (a ≤ b)
 same_or_less a b within = grind arith
@@ -137,7 +132,7 @@ edit_within rows (add place row) possible =
     elim (adds_or_takes row.op possible.own_row.0) [ inl ins ↦ rw ins.1 possible.within | inr takes ↦ rw takes possible.within ]
 edit_within rows (cut place row) possible =
     let inside : place < length rows = slice_get_within rows place row possible.within in
-    elim (adds_or_takes row.op (kind_there rows place row possible.history.of_kind possible.within)) [
+    elim (adds_or_takes row.op (of_kind_at Pq rows place row possible.history.of_kind possible.within)) [
       | inl ins ↦ rw ins.1 (elim (survives rows (record { key = ins.0; number = row.number })) as (λ b. SoughtWithin rows (cond b nowhere (on_from (suc place)))) [
         | true ↦ tt
         | false ↦ omega arith
