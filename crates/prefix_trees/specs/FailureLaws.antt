@@ -4,25 +4,26 @@ use Rattle.std.proofs.Common.{◌≡◌, ℕ, zero, suc, ◌≤◌, ℤ, pos, ne
 use Rattle.std.specs.Result.{result_err, result_unwrap_or}
 use Rattle.std.specs.Option.{option_map}
 use Rattle.std.proofs.lemmas.Int.{ints}
-use Rattle.std.proofs.lemmas.List.{take_all}
 use Rattle.retro_base.specs.declared.kind.Kind.{Kind}
-use Rattle.retro_base.specs.declared.kind.Kind.TheVariants.{Queue, Stack, Deque, Dict, Pq}
+use Rattle.retro_base.specs.declared.kind.Kind.TheVariants.{Dict, Pq}
 use Rattle.retro_base.specs.declared.op.Op.{Op}
 use Rattle.retro_base.specs.declared.row.Row.{Row}
 use Rattle.retro_base.specs.State.{State, items, empty, step}
-use Rattle.retro_base.specs.Replay.{one_later, run, failure, IsValid, state_at, present}
+use Rattle.retro_base.specs.Replay.{one_later, run, failure, IsValid, state_at}
+use Rattle.retro_base.specs.Kind.{kind_of}
+use Rattle.retro_base.specs.Outcomes.{is_ok}
+use Rattle.retro_base.specs.PrefixLaws.{valid_take}
 use Rattle.retro_base.specs.Timeline.{AreOfKind}
+use Rattle.retro_base.specs.lemmas.Folds.{ok_same, fold_rows-nil, fold_rows-some, fold_rows-none}
+use Rattle.retro_base.specs.lemmas.Replayable.{all_before}
 use Rattle.prefix_trees.specs.Growth.{IsLine, left_growth, right_growth, sign_of, value_of, grown}
 use Rattle.prefix_trees.specs.Falls.{FallsFirstFrom, NeverFalls, FallsFirst}
-use Rattle.prefix_trees.specs.RunLaws.{run-first, run-nil, run-step, run-stop, run-empty, run-take}
-use Rattle.prefix_trees.specs.LineLaws.{Moves, line_step, line_stop, growth_is}
+use Rattle.prefix_trees.specs.LineLaws.{Moves, line_step, line_stop, growth_is, run-first}
 
 pub empty-line : (kind : Kind) → IsLine kind → empty kind ≡ items []
-empty-line Queue line = refl
-empty-line Stack line = refl
-empty-line Deque line = refl
 empty-line Dict line = absurd line
 empty-line Pq line = absurd line
+empty-line kind line = refl
 
 -- the number of items after one more row
 size_next : (op : Op) (xs next : List ℤ) → Moves (left_growth op) (right_growth op) (value_of op) xs next → pos (length next) ≡ pos (length xs) +ℤ sign_of op
@@ -56,18 +57,18 @@ falls_later row rows start (Some (suc index)) enough falls = (
 
 failure_from : (kind : Kind) (rows : List Row) (xs : List ℤ) (answer : Option ℕ) → IsLine kind → AreOfKind kind rows → FallsFirstFrom (pos (length xs)) rows answer
     → result_err (run rows (items xs)) ≡ answer
-failure_from kind [] xs None line all falls = ap result_err (run-empty (items xs))
+failure_from kind [] xs None line all falls = ap result_err (fold_rows-nil step (items xs))
 failure_from kind [] xs (Some index) line all falls = absurd (omega (arith, falls.within))
 failure_from kind (row ∷ rows) xs answer line all falls =
     elim (step row (items xs)) as (λ o. step row (items xs) ≡ o → result_err (run (row ∷ rows) (items xs)) ≡ answer) [
       | None ↦ λ stops.
           let stop = line_stop row.op row.number xs (subst IsLine (sym all.0) line) stops in
-          ap result_err (run-stop row rows (items xs) stops) ∙ stops_first row rows (pos (length xs)) answer stop.0 (ap pos stop.1) falls
+          ap result_err (fold_rows-none step row rows (items xs) stops) ∙ stops_first row rows (pos (length xs)) answer stop.0 (ap pos stop.1) falls
       | Some next ↦ λ goes.
           let moved = line_step row.op row.number xs next (subst IsLine (sym all.0) line) goes in
           let size = size_next row.op xs moved.0 moved.2 in
           let later = falls_later row rows (pos (length xs)) answer (omega (arith, ints, size)) falls in
-          ap result_err (run-step row rows (items xs) next goes ∙ ap (λ s. one_later (run rows s)) moved.1)
+          ap result_err (fold_rows-some step row rows (items xs) next goes ∙ ap (λ s. one_later (run rows s)) moved.1)
           ∙ later_failure (run rows (items moved.0))
           ∙ ap (option_map suc) (failure_from kind rows moved.0 later.0 line all.1 (subst (λ n. FallsFirstFrom n rows later.0) (sym size) later.1))
           ∙ later.2
@@ -80,17 +81,12 @@ failure-falls kind rows answer line all falls = ap (λ s. result_err (run rows s
 -- how many items there are after rows that can be performed
 sizes : (kind : Kind) (rows : List Row) (xs : List ℤ) (state : State) → IsLine kind → AreOfKind kind rows → run rows (items xs) ≡ Ok state
     → (zs : List ℤ) × (state ≡ items zs) × (pos (length zs) ≡ pos (length xs) +ℤ grown sign_of rows (length rows))
-sizes kind [] xs state line all is = (xs, sym (run-nil (items xs) state is), omega (arith, ints))
+sizes kind [] xs state line all is = (xs, ok_same _ is (fold_rows-nil step (items xs)), omega (arith, ints))
 sizes kind (row ∷ rows) xs state line all is =
     let first = run-first row rows (items xs) state is in
     let moved = line_step row.op row.number xs first.0 (subst IsLine (sym all.0) line) first.1 in
     let rest = sizes kind rows moved.0 state line all.1 (ap (run rows) (sym moved.1) ∙ first.2) in
     (rest.0, rest.1, omega (arith, ints, rest.2, size_next row.op xs moved.0 moved.2))
-
-pub all_taken : (kind : Kind) (rows : List Row) (place : ℕ) → AreOfKind kind rows → AreOfKind kind (take place rows)
-all_taken kind rows zero all = tt
-all_taken kind [] (suc place) all = tt
-all_taken kind (row ∷ rows) (suc place) all = (all.0, all_taken kind rows place all.1)
 
 pub grown-take : (growth : Op → ℤ) (rows : List Row) (place earlier : ℕ) → earlier ≤ place → grown growth (take place rows) earlier ≡ grown growth rows earlier
 grown-take growth rows place zero order = refl
@@ -104,16 +100,11 @@ pub record LineAt (kind : Kind) (rows : List Row) (place : ℕ) (line : List ℤ
   pub state : state_at kind rows place ≡ items line
   pub size : pos (length line) ≡ grown sign_of rows place
 
-valid_run : (r : Result State ℕ) → result_err r ≡ None → (end : State) × (r ≡ Ok end)
-valid_run (Ok end) is = (end, refl)
-valid_run (Err index) is = absurd (cc)
-
 pub line-at : (kind : Kind) (rows : List Row) (place : ℕ) → IsLine kind → AreOfKind kind rows → IsValid kind rows → place ≤ length rows → (line : List ℤ) × LineAt kind rows place line
 line-at kind rows place line all valid within =
-    let whole = valid_run (run rows (empty kind)) valid in
-    let part = run-take rows place (empty kind) whole.0 whole.1 in
+    let part = is_ok (run (take place rows) (empty kind)) (valid_take kind rows place valid) in
     let from_items : run (take place rows) (items []) ≡ Ok part.0 = ap (run (take place rows)) (sym (empty-line kind line)) ∙ part.1 in
-    let found = sizes kind (take place rows) [] part.0 line (all_taken kind rows place all) from_items in (
+    let found = sizes kind (take place rows) [] part.0 line (all_before (λ row. kind_of row.op ≡ kind) rows place all) from_items in (
       found.0,
       record {
         replayed = from_items ∙ ap Ok found.1;
@@ -124,7 +115,3 @@ line-at kind rows place line all valid within =
 
 pub never-falls : (kind : Kind) (rows : List Row) → IsLine kind → AreOfKind kind rows → IsValid kind rows → NeverFalls rows
 never-falls kind rows line all valid place within = let at = line-at kind rows place line all valid within in omega (arith, ints, at.1.size)
-
--- the present is the state at the last place
-pub present-is : (kind : Kind) (rows : List Row) → present kind rows ≡ state_at kind rows (length rows)
-present-is kind rows = ap (λ l. result_unwrap_or (run l (empty kind)) (empty kind)) (sym (take_all (length rows) rows (omega arith)))

@@ -4,7 +4,6 @@ pub mod Walks
 pub mod SignPrefixes
 pub mod SignWalks
 pub mod MarkLaws
-pub mod RunLaws
 pub mod LineLaws
 pub mod PositionLaws
 pub mod Falls

@@ -1,14 +1,19 @@
 -- What one row does to a line of items: those that stay keep their distance to the ends, and an item that
 -- is new is the one that the row adds.
-use Rattle.std.proofs.Common.{◌≡◌, ℕ, zero, suc, ◌-◌, ◌<◌, ℤ, pos, negsuc, ◌+ℤ◌, List, [], ◌∷◌, ◌++◌, take, length, Option, Some, None, refl, sym, ap, ◌∙◌, arith, inl, inr, length-append, length-take}
+use Rattle.std.proofs.Common.{◌≡◌, ℕ, zero, suc, ◌-◌, ◌<◌, ℤ, pos, negsuc, ◌+ℤ◌, List, [], ◌∷◌, ◌++◌, take, length, Option, Some, None, Ok, refl, sym, ap, ◌∙◌, arith, inl, inr, length-append, length-take}
 use Rattle.std.specs.Prelude.{slice_get}
 use Rattle.std.proofs.lemmas.Bool.{cases_lt}
 use Rattle.std.proofs.lemmas.Int.{ints}
 use Rattle.std.specs.Option.{option_map}
 use Rattle.retro_base.specs.declared.op.Op.{Op}
-use Rattle.retro_base.specs.declared.op.Op.TheVariants.{Enq, Deq, Push, Pop, PushL, PushR, PopL, PopR, Put, Del, Ins, DelMin}
+use Rattle.retro_base.specs.declared.op.Op.TheVariants.{Enq, Deq, Push, Pop, PushL, PushR, PopL, PopR}
+use Rattle.retro_base.specs.declared.row.Row.{Row}
+use Rattle.retro_base.specs.Facts.{get_take}
 use Rattle.retro_base.specs.Kind.{kind_of}
-use Rattle.retro_base.specs.State.{State, items, perform, without_first, without_last}
+use Rattle.retro_base.specs.Outcomes.{later_ok}
+use Rattle.retro_base.specs.Replay.{run}
+use Rattle.retro_base.specs.State.{State, items, perform, step, without_first, without_last}
+use Rattle.retro_base.specs.lemmas.Folds.{not_both, fold_rows-some, fold_rows-none}
 use Rattle.prefix_trees.specs.Growth.{IsLine, left_growth, right_growth, sign_of, value_of}
 
 -- the line ys comes of xs by an operation that grows so much at either end and adds this item
@@ -28,12 +33,6 @@ get-append (x ∷ xs) ys (suc i) within = get-append xs ys i (omega arith)
 get-last : (xs : List ℤ) (y : ℤ) → slice_get (xs ++ y ∷ []) (length xs) ≡ Some y
 get-last [] y = refl
 get-last (x ∷ xs) y = get-last xs y
-
-get-take : (xs : List ℤ) (n i : ℕ) → i < n → slice_get (take n xs) i ≡ slice_get xs i
-get-take xs zero i below = absurd (omega arith)
-get-take [] (suc n) i below = refl
-get-take (x ∷ xs) (suc n) zero below = refl
-get-take (x ∷ xs) (suc n) (suc i) below = get-take xs n i (omega arith)
 
 -- an item comes to the left end
 joins_left : (value : ℤ) (xs : List ℤ) → Moves (pos 1) (pos 0) (Some value) xs (value ∷ xs)
@@ -71,7 +70,7 @@ leaves_right x xs =
     let size : length (take (length xs) (x ∷ xs)) ≡ length xs = omega (arith, length-take (length xs) (x ∷ xs)) in
     record {
       size = omega (arith, ints, size);
-      kept = λ i j from to is. get-take (x ∷ xs) (length xs) j (omega (arith, size)) ∙ same_at (x ∷ xs) j i (omega (arith, ints));
+      kept = λ i j from to is. get_take (x ∷ xs) (length xs) j (omega (arith, size)) ∙ same_at (x ∷ xs) j i (omega (arith, ints));
       written = λ j within apart. absurd (apart j (omega (arith, size)) (omega (arith, ints)));
     }
 
@@ -105,10 +104,7 @@ line_step (PushL v) n xs state h is = (v ∷ xs, comes_to xs (v ∷ xs) state is
 line_step (PushR v) n xs state h is = (xs ++ v ∷ [], comes_to xs (xs ++ v ∷ []) state is, joins_right v xs)
 line_step PopL n xs state h is = first_leaves xs state is
 line_step PopR n xs state h is = last_leaves xs state is
-line_step (Put k v) n xs state h is = absurd h
-line_step (Del k) n xs state h is = absurd h
-line_step (Ins k) n xs state h is = absurd h
-line_step DelMin n xs state h is = absurd h
+line_step op n xs state h is = absurd h
 
 nothing_to_take : (xs : List ℤ) → option_map items (without_first xs) ≡ None → length xs ≡ 0
 nothing_to_take [] is = refl
@@ -132,22 +128,18 @@ line_stop (PushL v) n xs h is = absurd (always_some (items (v ∷ xs)) is)
 line_stop (PushR v) n xs h is = absurd (always_some (items (xs ++ v ∷ [])) is)
 line_stop PopL n xs h is = (refl, nothing_to_take xs is)
 line_stop PopR n xs h is = (refl, nothing_to_take_last xs is)
-line_stop (Put k v) n xs h is = absurd h
-line_stop (Del k) n xs h is = absurd h
-line_stop (Ins k) n xs h is = absurd h
-line_stop DelMin n xs h is = absurd h
+line_stop op n xs h is = absurd h
 
 -- the growth at both ends is that of the whole
 pub growth_is : (op : Op) → left_growth op +ℤ right_growth op ≡ sign_of op
 growth_is (Enq v) = refl
-growth_is Deq = refl
-growth_is (Push v) = refl
-growth_is Pop = refl
-growth_is (PushL v) = refl
-growth_is (PushR v) = refl
-growth_is PopL = refl
-growth_is PopR = refl
-growth_is (Put k v) = refl
-growth_is (Del k) = refl
-growth_is (Ins k) = refl
-growth_is DelMin = refl
+growth_is op = refl
+
+-- rows that can be performed: the first row is, and then the others
+pub run-first : (row : Row) (rows : List Row) (state end : State) → run (row ∷ rows) state ≡ Ok end
+    → (next : State) × (step row state ≡ Some next) × (run rows next ≡ Ok end)
+run-first row rows state end is =
+    elim (step row state) as (λ o. step row state ≡ o → (next : State) × (step row state ≡ Some next) × (run rows next ≡ Ok end)) [
+      | None ↦ λ stops. absurd (not_both _ (fold_rows-none step row rows state stops) is)
+      | Some next ↦ λ goes. (next, goes, later_ok (run rows next) end (sym (fold_rows-some step row rows state next goes) ∙ is))
+    ] refl

@@ -15,12 +15,12 @@ use Rattle.std.proofs.lemmas.Int.{ints}
 use Rattle.retro_base.specs.declared.kind.Kind.{Kind}
 use Rattle.retro_base.specs.declared.row.Row.{Row}
 use Rattle.retro_base.specs.Kind.{kind_of}
-use Rattle.retro_base.specs.State.{items}
+use Rattle.retro_base.specs.State.{items, step}
+use Rattle.retro_base.specs.lemmas.Folds.{ok_same, fold_rows-nil}
 use Rattle.retro_base.specs.Replay.{run}
 use Rattle.retro_base.specs.Timeline.{AreOfKind}
 use Rattle.prefix_trees.specs.Growth.{IsLine, left_growth, right_growth, value_of, grown}
-use Rattle.prefix_trees.specs.RunLaws.{run-first, run-nil}
-use Rattle.prefix_trees.specs.LineLaws.{Moves, line_step}
+use Rattle.prefix_trees.specs.LineLaws.{Moves, line_step, run-first}
 
 -- the position is between the ends
 pub record IsInside (left right position : ℤ) : Type 0 where
@@ -52,7 +52,7 @@ first_row kind row rows xs zs line of_kind is =
     }
 
 end_is : (xs zs : List ℤ) → run [] (items xs) ≡ Ok (items zs) → xs ≡ zs
-end_is xs zs is = items_same xs zs (run-nil (items xs) (items zs) is)
+end_is xs zs is = items_same xs zs (ok_same _ (fold_rows-nil step (items xs)) is)
 
 module _ (kind : Kind) (line : IsLine kind) (position : ℤ) where
   -- the position is inside after so many rows, where the ends stood at these growths before

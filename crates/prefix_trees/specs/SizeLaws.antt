@@ -1,32 +1,20 @@
 -- How many items a line has is a number, and no greater than the number of rows before the place.
-use Rattle.std.proofs.Common.{◌≡◌, ℕ, zero, suc, ◌≤◌, ℤ, pos, negsuc, ◌+ℤ◌, ◌≤ℤ◌, List, [], ◌∷◌, length, refl, ap, arith}
-use Rattle.std.specs.Result.{result_err}
+use Rattle.std.proofs.Common.{◌≡◌, ℕ, zero, suc, ◌≤◌, ℤ, pos, negsuc, ◌+ℤ◌, ◌≤ℤ◌, List, [], ◌∷◌, length, refl, arith}
 use Rattle.std.proofs.lemmas.Int.{ints}
 use Rattle.retro_base.specs.Limits.{most_rows}
 use Rattle.retro_base.specs.declared.kind.Kind.{Kind}
 use Rattle.retro_base.specs.declared.op.Op.{Op}
-use Rattle.retro_base.specs.declared.op.Op.TheVariants.{Enq, Deq, Push, Pop, PushL, PushR, PopL, PopR, Put, Del, Ins, DelMin}
+use Rattle.retro_base.specs.declared.op.Op.TheVariants.{Enq}
 use Rattle.retro_base.specs.declared.row.Row.{Row}
-use Rattle.retro_base.specs.State.{empty}
 use Rattle.retro_base.specs.Timeline.{IsReplayable}
+use Rattle.retro_base.specs.lemmas.Replayable.{empty_replayable}
 use Rattle.prefix_trees.specs.Growth.{IsLine, sign_of, left_growth, right_growth, grown}
-use Rattle.prefix_trees.specs.RunLaws.{run-empty}
 use Rattle.prefix_trees.specs.LineLaws.{growth_is}
 use Rattle.prefix_trees.specs.FailureLaws.{never-falls}
 
 sign-le : (op : Op) → sign_of op ≤ℤ pos 1
 sign-le (Enq v) = omega (arith, ints)
-sign-le Deq = omega (arith, ints)
-sign-le (Push v) = omega (arith, ints)
-sign-le Pop = omega (arith, ints)
-sign-le (PushL v) = omega (arith, ints)
-sign-le (PushR v) = omega (arith, ints)
-sign-le PopL = omega (arith, ints)
-sign-le PopR = omega (arith, ints)
-sign-le (Put k v) = omega (arith, ints)
-sign-le (Del k) = omega (arith, ints)
-sign-le (Ins k) = omega (arith, ints)
-sign-le DelMin = omega (arith, ints)
+sign-le op = omega (arith, ints)
 
 -- so many rows add at most so many items
 pub grown-le : (rows : List Row) (place : ℕ) → grown sign_of rows place ≤ℤ pos place
@@ -52,4 +40,4 @@ natural-size kind rows line replayable place size within is =
 
 -- no rows replay
 pub replayable-none : (kind : Kind) → IsReplayable kind []
-replayable-none kind = record { few = omega arith; of_kind = tt; own_numbers = tt; valid = ap result_err (run-empty (empty kind)) }
+replayable-none kind = empty_replayable kind

@@ -1,5 +1,5 @@
 -- Which row wrote an item of the line at a place.
-use Rattle.std.proofs.Common.{◌≡◌, ℕ, ◌<◌, ◌≤◌, ℤ, pos, ◌+ℤ◌, ◌-ℤ◌, List, [], take, length, Option, Some, None, sym, ap, ◌∙◌, arith, subst, length-take-le}
+use Rattle.std.proofs.Common.{◌≡◌, ℕ, ◌<◌, ◌≤◌, ℤ, pos, ◌+ℤ◌, ◌-ℤ◌, List, [], take, length, Some, ap, ◌∙◌, arith, length-take-le}
 use Rattle.std.specs.Prelude.{slice_get}
 use Rattle.std.proofs.lemmas.Int.{ints}
 use Rattle.retro_base.specs.declared.kind.Kind.{Kind}
@@ -7,9 +7,11 @@ use Rattle.retro_base.specs.declared.row.Row.{Row}
 use Rattle.retro_base.specs.Timeline.{AreOfKind}
 use Rattle.prefix_trees.specs.Growth.{IsLine, left_growth, right_growth, value_of, grown}
 use Rattle.prefix_trees.specs.PositionLaws.{IsInside, written_from}
-use Rattle.prefix_trees.specs.FailureLaws.{LineAt, grown-take, all_taken}
+use Rattle.prefix_trees.specs.FailureLaws.{LineAt, grown-take}
 use Rattle.std.proofs.lemmas.Option.{slice_get_within}
-use Rattle.retro_base.specs.Facts.{get_taken}
+use Rattle.retro_base.specs.Facts.{get_taken, one_at}
+use Rattle.retro_base.specs.Kind.{kind_of}
+use Rattle.retro_base.specs.lemmas.Replayable.{all_before}
 use Rattle.monoid_laws.specs.SummedLaws.{zero_add}
 
 -- the row at the place wrote the item at the index
@@ -22,29 +24,14 @@ pub record IsWrittenAt (rows : List Row) (items : List ℤ) (index place : ℕ) 
 abbrev pub InsideAfter : List Row → ℕ → ℕ → ℕ → Type 0
 InsideAfter rows place index earlier = IsInside (grown left_growth rows earlier) (grown right_growth rows earlier) (pos index -ℤ grown left_growth rows place)
 
-same_row : (row other : Row) → ◌≡◌ {A = Option Row} (Some row) (Some other) → row ≡ other
-same_row row other same = cc
-
-no_row : (row : Row) → ◌≡◌ {A = Option Row} None (Some row) → ⊥
-no_row row same = cc
-
 module _ (kind : Kind) (line : IsLine kind) (rows : List Row) (place index : ℕ) (items : List ℤ) (all : AreOfKind kind rows) (within : place ≤ length rows)
     (at : LineAt kind rows place items) (there : index < length items) where
-  after_start : (earlier : ℕ) → earlier ≤ place → InsideAfter rows place index earlier
-      → IsInside (pos 0 +ℤ grown left_growth (take place rows) earlier) (pos 0 +ℤ grown right_growth (take place rows) earlier) (pos index -ℤ grown left_growth rows place)
-  after_start earlier before inside =
-      subst (λ (s : ℤ). IsInside s (pos 0 +ℤ grown right_growth (take place rows) earlier) (pos index -ℤ grown left_growth rows place))
-      (sym (zero_add (grown left_growth (take place rows) earlier) ∙ grown-take left_growth rows place earlier before))
-      (subst (λ (s : ℤ). IsInside (grown left_growth rows earlier) s (pos index -ℤ grown left_growth rows place))
-      (sym (zero_add (grown right_growth (take place rows) earlier) ∙ grown-take right_growth rows place earlier before)) inside)
+  -- the ends of the first rows stand where those of all rows do
+  left_end : (earlier : ℕ) → earlier ≤ place → pos 0 +ℤ grown left_growth (take place rows) earlier ≡ grown left_growth rows earlier
+  left_end earlier before = zero_add (grown left_growth (take place rows) earlier) ∙ grown-take left_growth rows place earlier before
 
-  from_after : (earlier : ℕ) → earlier ≤ place → IsInside (pos 0 +ℤ grown left_growth (take place rows) earlier) (pos 0 +ℤ grown right_growth (take place rows) earlier) (pos index -ℤ grown left_growth rows place)
-      → InsideAfter rows place index earlier
-  from_after earlier before inside =
-      subst (λ (s : ℤ). IsInside s (grown right_growth rows earlier) (pos index -ℤ grown left_growth rows place))
-      (zero_add (grown left_growth (take place rows) earlier) ∙ grown-take left_growth rows place earlier before)
-      (subst (λ (s : ℤ). IsInside (pos 0 +ℤ grown left_growth (take place rows) earlier) s (pos index -ℤ grown left_growth rows place))
-      (zero_add (grown right_growth (take place rows) earlier) ∙ grown-take right_growth rows place earlier before) inside)
+  right_end : (earlier : ℕ) → earlier ≤ place → pos 0 +ℤ grown right_growth (take place rows) earlier ≡ grown right_growth rows earlier
+  right_end earlier before = zero_add (grown right_growth (take place rows) earlier) ∙ grown-take right_growth rows place earlier before
 
   size : length (take place rows) ≡ place
   size = length-take-le place rows within
@@ -53,14 +40,14 @@ module _ (kind : Kind) (line : IsLine kind) (rows : List Row) (place index : ℕ
   pub written-at : (written : ℕ) → written ≤ place → (InsideAfter rows place index written → ⊥) → ((later : ℕ) → written < later → later ≤ place → InsideAfter rows place index later)
       → IsWrittenAt rows items index written
   written-at written before outside inside =
-      let found = written_from kind line (pos index -ℤ grown left_growth rows place) (take place rows) (pos 0) (pos 0) [] items index written (all_taken kind rows place all) at.replayed (omega (arith, ints)) there
+      let found = written_from kind line (pos index -ℤ grown left_growth rows place) (take place rows) (pos 0) (pos 0) [] items index written (all_before (λ row. kind_of row.op ≡ kind) rows place all) at.replayed (omega (arith, ints)) there
       (omega (arith, ints, ap (grown left_growth (take place rows)) size, grown-take left_growth rows place place (omega arith)))
       (omega (arith, size))
-      (λ there. outside (from_after written before there))
-      (λ later after below. after_start later (omega (arith, size)) (inside later after (omega (arith, size)))) in
+      (λ there. outside (rw (← left_end written before, ← right_end written before) there))
+      (λ later after below. let early : later ≤ place = omega (arith, size) in rw (left_end later early, right_end later early) (inside later after early)) in
       let row = get_taken rows place written found.0 found.1 in
       record {
         there = there;
         within = slice_get_within rows written found.0 row;
-        writes = λ other is. found.2 ∙ ap (λ (r : Row). value_of r.op) (same_row found.0 other (sym row ∙ is));
+        writes = λ other is. found.2 ∙ ap (λ (r : Row). value_of r.op) (one_at rows written found.0 other row is);
       }
