@@ -26,8 +26,7 @@ moved_moved m n (Some p) = ap (λ j. Some (p.0, j)) (omega arith)
 module _ {E : Type 0} {order : E → E → Ordering} (total : IsTotalOrder order) where
   moved_greater : (n : ℕ) (r : Ordering) (a b : E × ℕ) → moved n (Some (greater_of r a b)) ≡ Some (greater_of r (a.0, n + a.1) (b.0, n + b.1))
   moved_greater n Less a b = refl
-  moved_greater n Equal a b = refl
-  moved_greater n Greater a b = refl
+  moved_greater n r a b = refl
 
   moved_first : (n : ℕ) (a b : Option (E × ℕ)) → moved n (first_greatest order a b) ≡ first_greatest order (moved n a) (moved n b)
   moved_first n None b = refl
@@ -40,8 +39,7 @@ module _ {E : Type 0} {order : E → E → Ordering} (total : IsTotalOrder order
 
   keeps : {P : Type 0} (r : Ordering) (a c : P) → is_gt (ordering_reverse r) ≡ false → greater_of r a c ≡ a
   keeps Less a c above = absurd (cc above)
-  keeps Equal a c above = refl
-  keeps Greater a c above = refl
+  keeps r a c above = refl
 
   -- the greatest of three, where b is not greater than a, and c not greater than b
   stays : (a b c : E × ℕ) → is_gt (order b.0 a.0) ≡ false → is_gt (order c.0 b.0) ≡ false → greater_of (order a.0 c.0) a c ≡ a
@@ -52,14 +50,9 @@ module _ {E : Type 0} {order : E → E → Ordering} (total : IsTotalOrder order
 
   assoc_by : (a b c : E × ℕ) (r s : Ordering) → order a.0 b.0 ≡ r → order b.0 c.0 ≡ s → greater_of (order (greater_of r a b).0 c.0) (greater_of r a b) c ≡ greater_of (order a.0 (greater_of s b c).0) a (greater_of s b c)
   assoc_by a b c Less Less p q = simp (q, total.trans a.0 b.0 c.0 p q)
-  assoc_by a b c Less Equal p q = simp (p, q)
-  assoc_by a b c Less Greater p q = simp (p, q)
-  assoc_by a b c Equal Less p q = refl
-  assoc_by a b c Equal Equal p q = simp p (stays a b c (ap is_gt (back a.0 b.0 Equal p)) (ap is_gt (back b.0 c.0 Equal q)))
-  assoc_by a b c Equal Greater p q = simp p (stays a b c (ap is_gt (back a.0 b.0 Equal p)) (ap is_gt (back b.0 c.0 Greater q)))
-  assoc_by a b c Greater Less p q = refl
-  assoc_by a b c Greater Equal p q = simp p (stays a b c (ap is_gt (back a.0 b.0 Greater p)) (ap is_gt (back b.0 c.0 Equal q)))
-  assoc_by a b c Greater Greater p q = simp p (stays a b c (ap is_gt (back a.0 b.0 Greater p)) (ap is_gt (back b.0 c.0 Greater q)))
+  assoc_by a b c Less s p q = simp (p, q)
+  assoc_by a b c r Less p q = refl
+  assoc_by a b c r s p q = simp p (stays a b c (ap is_gt (back a.0 b.0 r p)) (ap is_gt (back b.0 c.0 s q)))
 
   first_assoc : (a b c : Option (E × ℕ)) → first_greatest order (first_greatest order a b) c ≡ first_greatest order a (first_greatest order b c)
   first_assoc None b c = refl
@@ -84,58 +77,45 @@ module _ {E : Type 0} {order : E → E → Ordering} (total : IsTotalOrder order
   abbrev IsExtreme : List (Option E) → Option (E × ℕ) → Type 0
   IsExtreme items o = MatchOption o (NoElement items) (λ p. IsFirstGreatest order items p.0 p.1)
 
-  after_none : (items : List (Option E)) (e : E) (k : ℕ) → IsFirstGreatest order items e k → IsFirstGreatest order (None ∷ items) e (suc k)
-  after_none items e k rest = record { there = rest.there; greatest = greatest; first = first }
+  -- the first item has no element, or a lesser one
+  one_further : (o : Option E) (items : List (Option E)) (e : E) (k : ℕ) → IsFirstGreatest order items e k → ((x : E) → o ≡ Some x → order x e ≡ Less) → IsFirstGreatest order (o ∷ items) e (suc k)
+  one_further o items e k rest less = record { there = rest.there; greatest = greatest; first = first }
     where
-      greatest : (j : ℕ) (x : E) → slice_get (None ∷ items) j ≡ Some (Some x) → is_gt (order x e) ≡ false
-      greatest zero x is = absurd (cc is)
+      greatest : (j : ℕ) (x : E) → slice_get (o ∷ items) j ≡ Some (Some x) → is_gt (order x e) ≡ false
+      greatest zero x is = ap is_gt (less x (cc is))
       greatest (suc j) x is = rest.greatest j x is
 
-      first : (j : ℕ) (x : E) → j < suc k → slice_get (None ∷ items) j ≡ Some (Some x) → order x e ≡ Less
-      first zero x below is = absurd (cc is)
+      first : (j : ℕ) (x : E) → j < suc k → slice_get (o ∷ items) j ≡ Some (Some x) → order x e ≡ Less
+      first zero x below is = less x (cc is)
       first (suc j) x below is = rest.first j x (omega arith) is
 
   no_more : (items : List (Option E)) → NoElement items → NoElement (None ∷ items)
   no_more items none zero x is = cc is
   no_more items none (suc j) x is = none j x is
 
-  alone : (a : E) (items : List (Option E)) → NoElement items → IsFirstGreatest order (Some a ∷ items) a 0
-  alone a items none = record { there = refl; greatest = greatest; first = λ j x below is. absurd (omega arith) }
+  -- it has one that no later one exceeds
+  at_first : (a : E) (items : List (Option E)) → ((j : ℕ) (x : E) → slice_get items j ≡ Some (Some x) → is_gt (order x a) ≡ false) → IsFirstGreatest order (Some a ∷ items) a 0
+  at_first a items above = record { there = refl; greatest = greatest; first = λ j x below is. absurd (omega arith) }
     where
       greatest : (j : ℕ) (x : E) → slice_get (Some a ∷ items) j ≡ Some (Some x) → is_gt (order x a) ≡ false
       greatest zero x is = let same_element : a ≡ x = cc is in subst (λ y. is_gt (order y a) ≡ false) same_element (ap is_gt (tied_itself total a))
-      greatest (suc j) x is = absurd (none j x is)
-
-  overtaken : (a : E) (items : List (Option E)) (e : E) (k : ℕ) → IsFirstGreatest order items e k → order a e ≡ Less → IsFirstGreatest order (Some a ∷ items) e (suc k)
-  overtaken a items e k rest less = record { there = rest.there; greatest = greatest; first = first }
-    where
-      greatest : (j : ℕ) (x : E) → slice_get (Some a ∷ items) j ≡ Some (Some x) → is_gt (order x e) ≡ false
-      greatest zero x is = let same_element : a ≡ x = cc is in subst (λ y. is_gt (order y e) ≡ false) same_element (ap is_gt less)
-      greatest (suc j) x is = rest.greatest j x is
-
-      first : (j : ℕ) (x : E) → j < suc k → slice_get (Some a ∷ items) j ≡ Some (Some x) → order x e ≡ Less
-      first zero x below is = let same_element : a ≡ x = cc is in subst (λ y. order y e ≡ Less) same_element less
-      first (suc j) x below is = rest.first j x (omega arith) is
+      greatest (suc j) x is = above j x is
 
   kept : (a : E) (items : List (Option E)) (e : E) (k : ℕ) → IsFirstGreatest order items e k → is_gt (order e a) ≡ false → IsFirstGreatest order (Some a ∷ items) a 0
-  kept a items e k rest above = record { there = refl; greatest = greatest; first = λ j x below is. absurd (omega arith) }
-    where
-      greatest : (j : ℕ) (x : E) → slice_get (Some a ∷ items) j ≡ Some (Some x) → is_gt (order x a) ≡ false
-      greatest zero x is = let same_element : a ≡ x = cc is in subst (λ y. is_gt (order y a) ≡ false) same_element (ap is_gt (tied_itself total a))
-      greatest (suc j) x is = upto total x e a (rest.greatest j x is) above
+  kept a items e k rest above = at_first a items (λ j x is. upto total x e a (rest.greatest j x is) above)
 
   one_on : (n : ℕ) → 1 + n ≡ suc n
   one_on n = omega arith
 
   greater_on : (a : E) (items : List (Option E)) (p : E × ℕ) (r : Ordering) → order a p.0 ≡ r → IsFirstGreatest order items p.0 p.1 → IsExtreme (Some a ∷ items) (Some (greater_of r (a, 0) (p.0, 1 + p.1)))
-  greater_on a items p Less is rest = subst (IsFirstGreatest order (Some a ∷ items) p.0) (sym (one_on p.1)) (overtaken a items p.0 p.1 rest is)
+  greater_on a items p Less is rest = subst (IsFirstGreatest order (Some a ∷ items) p.0) (sym (one_on p.1)) (one_further (Some a) items p.0 p.1 rest (λ x same. let same_element : a ≡ x = cc same in subst (λ y. order y p.0 ≡ Less) same_element is))
   greater_on a items p Equal is rest = kept a items p.0 p.1 rest (ap is_gt (back a p.0 Equal is))
   greater_on a items p Greater is rest = kept a items p.0 p.1 rest (ap is_gt (back a p.0 Greater is))
 
   one_more : (o : Option E) (items : List (Option E)) (rest : Option (E × ℕ)) → IsExtreme items rest → IsExtreme (o ∷ items) (first_greatest order (at_start o) (moved 1 rest))
   one_more None items None none = no_more items none
-  one_more None items (Some p) rest = subst (IsFirstGreatest order (None ∷ items) p.0) (sym (one_on p.1)) (after_none items p.0 p.1 rest)
-  one_more (Some a) items None none = alone a items none
+  one_more None items (Some p) rest = subst (IsFirstGreatest order (None ∷ items) p.0) (sym (one_on p.1)) (one_further None items p.0 p.1 rest (λ x same. absurd (cc same)))
+  one_more (Some a) items None none = at_first a items (λ j x is. absurd (none j x is))
   one_more (Some a) items (Some p) rest = greater_on a items p (order a p.0) refl rest
 
   is_extreme : (items : List (Option E)) → IsExtreme items (extreme_of order items).first
