@@ -208,36 +208,43 @@ def entries(count, kind="pq"):
         yield entry(number)
 
 
+def sizes(*places):
+    """Asked after so many of the rows that `entries` puts in, all of which stay."""
+    for place in places:
+        yield "p ask at %d size" % place, "= %d" % place
+
+
 def a_gap_between_checkpoints_that_is_split():
     """Of 3,000 rows; 1,100 more come in after the five hundredth, each before those that came there before."""
     yield from entries(3_000)
-    yield "p ask at 1500 size", "= 1500"
+    yield from sizes(0, 750, 1_500, 3_000)
     for number in range(3_001, 4_101):
         yield "p after #500 ins 0", "edit p add 500 #%d ins 0 bridge 500 gain #%d 0" % (number, number)
     for place in range(0, 501, 100):
         yield "p ask before #%d size" % (place + 1 if place < 500 else 4_100), "= %d" % place
-    for place in range(600, 1_601, 100):
+    for place in (*range(600, 1_601, 100), 1_025):
         yield "p ask after #%d size" % (4_601 - place), "= %d" % place
-    for place in range(1_700, 4_101, 100):
+    for place in (*range(1_700, 4_101, 100), 2_050):
         yield "p ask after #%d size" % (place - 1_100), "= %d" % place
 
 
 def checkpoints_that_go_where_rows_go():
     """Of 40,000 rows the first 39,000 are taken out, one after another."""
     yield from entries(40_000)
-    yield "p ask at 20000 size", "= 20000"
+    yield from sizes(0, 10_000, 20_000, 40_000)
     yield "p ask at 39999 nth 0", "= 1"
     for number in range(1, 39_001):
         yield "p delete #%d" % number, "edit p cut 0 #%d ins %d bridge none lose #%d %d" % (number, number, number, number)
     yield "p ask size", "= 1000"
+    for place in (0, 250, 500, 1_000):
+        yield "p ask at %d size" % (39_000 + place), "= %d" % place
     yield "p ask at 39500 min", "= 39001"
 
 
 def questions_in_order_of_time():
     """Of 3,000 rows, at each place in turn; then one more comes in before the last ones."""
     yield from entries(3_000)
-    for place in range(3_000):
-        yield "p ask at %d size" % place, "= %d" % place
+    yield from sizes(*range(3_001))
     yield "p after #2500 ins 0", "edit p add 2500 #3001 ins 0 bridge 2500 gain #3001 0"
     yield "p ask before #2990 size", "= 2990"
 
@@ -245,26 +252,25 @@ def questions_in_order_of_time():
 def a_checkpoint_that_is_made_and_dropped_by_turns():
     """Of 2,100 rows; one more comes in after the five hundredth, and goes again."""
     yield from entries(2_100)
-    yield "p ask at 1050 size", "= 1050"
+    yield from sizes(0, 525, 1_050, 2_100)
     for number in range(2_101, 2_121):
         yield "p after #500 ins 0", "edit p add 500 #%d ins 0 bridge 500 gain #%d 0" % (number, number)
+        yield from sizes(0)
         for place in (525, 1_050):
             yield "p ask before #%d size" % place, "= %d" % place
         yield "p ask at 2100 size", "= 2101"
         yield "p delete #%d" % number, "edit p cut 500 #%d ins 0 bridge none lose #%d 0" % (number, number)
-    for place in (0, 525, 1_050, 2_100):
-        yield "p ask at %d size" % place, "= %d" % place
+    yield from sizes(0, 525, 1_050, 2_100)
     yield "p ask at 600 nth 550", "= 551"
 
 
 def a_checkpoint_too_many():
     """It doubles the width between them."""
     yield from entries(32_700)
-    yield "p ask at 1500 size", "= 1500"
+    yield from sizes(1_500)
     for number in range(32_701, 32_901):
         yield entry(number)
-    for place in range(0, 32_901, 100):
-        yield "p ask at %d size" % place, "= %d" % place
+    yield from sizes(*range(0, 32_901, 100))
 
 
 def a_full_priority_queue():

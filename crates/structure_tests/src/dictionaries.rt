@@ -1,199 +1,85 @@
-//! The dictionary.
+//! The dictionary, beside the plain list of its kind, and the lifetimes of its pairs.
 
-use super::history::History;
+use super::history::{History, Step, play_plain};
 use lifetime_segments::Segments;
-use retro_base::{Answer, Item, Op, Question};
+use retro_base::{Answer, Change, Item, Kind, Op, Question};
 use retro_dictionary::{Found, KeyPair, KeyRange, PairSearch, RetroDictionary};
-use std::alloc::Global;
 use std::process::Abort;
-
-type Dictionary = History<RetroDictionary>;
-
-fn expect_answers(rt: &impl Abort, history: &mut Dictionary, answers: &[(u32, Question, Answer)]) {
-    for (place, question, answer) in answers {
-        assert_eq!(rt; history.ask(rt, *place, *question), *answer);
-    }
-}
-
-fn expect_pairs(rt: &impl Abort, history: &mut Dictionary, place: u32, pairs: &[(i64, i64)]) {
-    let listing = history.all(rt, place);
-    assert_eq!(rt; listing.len() as usize, pairs.len());
-    for (index, (key, value)) in pairs.iter().enumerate() {
-        assert!(rt; index < listing.len() as usize);
-        let item = Item::Pair {
-            key: *key,
-            value: *value,
-        };
-        assert_eq!(rt; listing.item(index as u32), item);
-    }
-}
-
-fn number(value: i128) -> Answer {
-    Answer::Number { value }
-}
 
 const GET: Question = Question::Get { key: 1 };
 
+const COUNT: Question = Question::Count { low: 0, high: 9 };
+
+const SUM: Question = Question::Sum { low: 0, high: 9 };
+
+const TEN: Answer = Answer::Number { value: 10 };
+
+const TWENTY: Answer = Answer::Number { value: 20 };
+
 const DEL: Op = Op::Del { key: 1 };
 
-/// `put 1 10`, `put 1 20`.
-fn two_rows(rt: &impl Abort, alloc: Global) -> Dictionary {
-    let mut history = History::new(RetroDictionary::new(alloc));
-    assert_eq!(rt; history.failing_with(rt, 0, DEL), Some(0));
-    history.put(rt, 0, 0, Op::Put { key: 1, value: 10 });
-    history.put(rt, 1, 0, Op::Put { key: 1, value: 20 });
-    history
-}
+/// `put 1 10` and `put 1 20`, between which `del 1` comes in; then the last two of them go.
+const BETWEEN: &[Step<'static>] = &[
+    Step::FailsWith(0, DEL, Some(0)),
+    Step::Put(0, 0, Op::Put { key: 1, value: 10 }, Change::Plain),
+    Step::Put(1, 0, Op::Put { key: 1, value: 20 }, Change::Plain),
+    Step::Ask(1, GET, TEN),
+    Step::Ask(2, GET, TWENTY),
+    Step::Put(1, 0, DEL, Change::Plain),
+    Step::Ask(0, GET, Answer::Nothing),
+    Step::Ask(1, GET, TEN),
+    Step::Ask(2, GET, Answer::Nothing),
+    Step::Ask(2, COUNT, Answer::Number { value: 0 }),
+    Step::Ask(3, SUM, TWENTY),
+    Step::FailsWithout(0, Some(0)),
+    Step::FailsWithout(1, None),
+    Step::FailsWith(0, DEL, Some(0)),
+    Step::FailsWith(1, DEL, Some(2)),
+    Step::FailsWith(3, DEL, None),
+    Step::Cut(1, (3, 0, DEL), Change::Plain),
+    Step::Ask(1, GET, TEN),
+    Step::Ask(2, GET, TWENTY),
+    Step::Cut(1, (2, 0, Op::Put { key: 1, value: 20 }), Change::Plain),
+    Step::AskNow(SUM, TEN),
+];
 
-fn expect_two_rows(rt: &impl Abort, history: &mut Dictionary) {
-    expect_answers(rt, history, &[(1, GET, number(10)), (2, GET, number(20))]);
-}
-
-/// `del 1` comes in between.
-fn expect_three_rows(rt: &impl Abort, history: &mut Dictionary) {
-    let count = Question::Count { low: 0, high: 9 };
-    let sum = Question::Sum { low: 0, high: 9 };
-    expect_answers(
-        rt,
-        history,
-        &[
-            (0, GET, Answer::Nothing),
-            (1, GET, number(10)),
-            (2, GET, Answer::Nothing),
-            (2, count, number(0)),
-            (3, sum, number(20)),
-        ],
-    );
-}
-
-fn expect_failures(rt: &impl Abort, history: &Dictionary) {
-    for (place, failing) in [(0, Some(0)), (1, None)] {
-        assert_eq!(rt; history.failing_without(rt, place), failing);
-    }
-    for (place, failing) in [(0, Some(0)), (1, Some(2)), (3, None)] {
-        assert_eq!(rt; history.failing_with(rt, place, DEL), failing);
-    }
-}
-
-fn take_back(rt: &impl Abort, history: &mut Dictionary) {
-    let (row, _) = history.cut(rt, 1);
-    assert_eq!(rt; (row.number, row.op), (3, DEL));
-}
-
-fn expect_present(rt: &impl Abort, history: &mut Dictionary) {
-    history.cut(rt, 1);
-    let sum = Question::Sum { low: 0, high: 9 };
-    assert_eq!(rt; history.ask_now(rt, sum), number(10));
-}
+/// `put 1 10` and `del 1`, which goes.
+const DELETED: &[Step<'static>] = &[
+    Step::Put(0, 5, Op::Put { key: 1, value: 10 }, Change::Plain),
+    Step::Put(1, 5, DEL, Change::Plain),
+    Step::FailsWith(1, DEL, Some(2)),
+    Step::FailsWithout(0, Some(0)),
+    Step::Ask(2, GET, Answer::Nothing),
+    Step::Items(1, &[Item::Pair { key: 1, value: 10 }]),
+    Step::Rows(2),
+    Step::Cut(1, (2, 5, DEL), Change::Plain),
+    Step::Rows(1),
+    Step::Ask(1, GET, TEN),
+];
 
 #[test]
 fn a_row_comes_in_between(rt: HostRuntime) {
-    let mut history = two_rows(&rt, rt.alloc());
-    expect_two_rows(&rt, &mut history);
-    history.put(&rt, 1, 0, DEL);
-    expect_three_rows(&rt, &mut history);
-    expect_failures(&rt, &history);
-    take_back(&rt, &mut history);
-    expect_two_rows(&rt, &mut history);
-    expect_present(&rt, &mut history);
+    play_plain(&rt, rt.alloc(), Kind::Dict, DELETED);
+    let mut history = History::new(RetroDictionary::new(rt.alloc()));
+    history.play(&rt, BETWEEN);
     drop(history);
 }
+
+const FORTY_ONE: &[Step<'static>] = &[
+    Step::Ask(0, GET, Answer::Nothing),
+    Step::Ask(1, GET, Answer::Number { value: 40 }),
+    Step::Ask(20, GET, Answer::Number { value: 21 }),
+    Step::Ask(41, GET, Answer::Number { value: 0 }),
+];
 
 /// Rows that each come in before all others, so many that they do not all halve the first label.
-fn rows_that_come_first(rt: &impl Abort, alloc: Global) -> Dictionary {
-    let mut history = History::new(RetroDictionary::new(alloc));
-    for value in 0..41 {
-        history.put(rt, 0, 0, Op::Put { key: 1, value });
-    }
-    history
-}
-
 #[test]
 fn rows_come_in_before_all_others(rt: HostRuntime) {
-    let mut history = rows_that_come_first(&rt, rt.alloc());
-    let answers = [
-        (0, GET, Answer::Nothing),
-        (1, GET, number(40)),
-        (20, GET, number(21)),
-        (41, GET, number(0)),
-    ];
-    expect_answers(&rt, &mut history, &answers);
-    drop(history);
-}
-
-const LOW: i64 = i64::MIN;
-
-const HIGH: i64 = i64::MAX;
-
-/// The least key and the greatest one.
-fn both_ends(rt: &impl Abort, alloc: Global) -> Dictionary {
-    let mut history = History::new(RetroDictionary::new(alloc));
-    history.put(
-        rt,
-        0,
-        0,
-        Op::Put {
-            key: LOW,
-            value: HIGH,
-        },
-    );
-    history.put(
-        rt,
-        1,
-        0,
-        Op::Put {
-            key: HIGH,
-            value: HIGH,
-        },
-    );
-    history
-}
-
-fn pair(key: i64, value: i64) -> Answer {
-    Answer::Pair { key, value }
-}
-
-fn expect_neighbours(rt: &impl Abort, history: &mut Dictionary) {
-    expect_answers(
-        rt,
-        history,
-        &[
-            (2, Question::Succ { key: 0 }, pair(HIGH, HIGH)),
-            (2, Question::Pred { key: 0 }, pair(LOW, HIGH)),
-            (2, Question::Succ { key: HIGH }, pair(HIGH, HIGH)),
-            (2, Question::Pred { key: LOW }, pair(LOW, HIGH)),
-        ],
-    );
-}
-
-fn expect_sums(rt: &impl Abort, history: &mut Dictionary) {
-    let sum = Question::Sum {
-        low: LOW,
-        high: HIGH,
-    };
-    expect_answers(
-        rt,
-        history,
-        &[
-            (2, sum, number(18_446_744_073_709_551_614)),
-            (2, Question::Count { low: 1, high: 0 }, number(0)),
-            (1, Question::Size, number(1)),
-        ],
-    );
-}
-
-fn expect_contents(rt: &impl Abort, history: &mut Dictionary) {
-    expect_pairs(rt, history, 2, &[(LOW, HIGH), (HIGH, HIGH)]);
-    expect_pairs(rt, history, 1, &[(LOW, HIGH)]);
-    expect_pairs(rt, history, 0, &[]);
-}
-
-#[test]
-fn the_least_and_the_greatest_numbers_are_there(rt: HostRuntime) {
-    let mut history = both_ends(&rt, rt.alloc());
-    expect_neighbours(&rt, &mut history);
-    expect_sums(&rt, &mut history);
-    expect_contents(&rt, &mut history);
+    let mut history = History::new(RetroDictionary::new(rt.alloc()));
+    for value in 0..41 {
+        history.put(&rt, 0, 0, Op::Put { key: 1, value });
+    }
+    history.play(&rt, FORTY_ONE);
     drop(history);
 }
 
@@ -220,25 +106,15 @@ fn found(count: u32, sum: i128, least: Option<KeyPair>, greatest: Option<KeyPair
     }
 }
 
-/// What is found of the pairs that are there at a label.
-fn found_at(rt: &impl Abort, segments: &Segments<PairSearch>, label: u64) -> Found {
+/// Sees that so much is found of a range of keys at a label.
+fn expect_found(
+    rt: &impl Abort,
+    segments: &Segments<PairSearch>,
+    (label, low, high): (u64, i64, i64),
+    found: Found,
+) {
     assert!(rt; label < 1 << 40);
-    segments.ask(label, KeyRange { low: 0, high: 9 })
-}
-
-fn expect_both(rt: &impl Abort, segments: &Segments<PairSearch>) {
-    for (label, first, second) in [
-        (1, false, false),
-        (2, true, false),
-        (3, true, false),
-        (4, true, true),
-        (5, true, true),
-        (7, true, true),
-        (8, false, true),
-        ((1 << 40) - 1, false, true),
-    ] {
-        assert_eq!(rt; found_at(rt, segments, label), wanted(first, second));
-    }
+    assert_eq!(rt; segments.ask(label, KeyRange { low, high }), found);
 }
 
 #[test]
@@ -246,21 +122,27 @@ fn pairs_are_found_by_their_lifetimes(rt: HostRuntime) {
     let mut segments = Segments::<PairSearch>::new(rt.alloc());
     segments.add(2, 8, FIRST).expect(&rt, "memory");
     segments.add(4, 1 << 40, SECOND).expect(&rt, "memory");
-    expect_both(&rt, &segments);
-    for (low, high, first, second) in [
-        (0, 0, false, false),
-        (0, 1, true, false),
-        (1, 1, true, false),
-        (2, 2, false, true),
-        (2, 9, false, true),
-        (3, 9, false, false),
-        (2, 1, false, false),
+    for (place, first, second) in [
+        ((1, 0, 9), false, false),
+        ((2, 0, 9), true, false),
+        ((3, 0, 9), true, false),
+        ((4, 0, 9), true, true),
+        ((5, 0, 9), true, true),
+        ((7, 0, 9), true, true),
+        ((8, 0, 9), false, true),
+        (((1 << 40) - 1, 0, 9), false, true),
+        ((5, 0, 0), false, false),
+        ((5, 0, 1), true, false),
+        ((5, 1, 1), true, false),
+        ((5, 2, 2), false, true),
+        ((5, 2, 9), false, true),
+        ((5, 3, 9), false, false),
+        ((5, 2, 1), false, false),
     ] {
-        let range = KeyRange { low, high };
-        assert_eq!(rt; segments.ask(5, range), wanted(first, second));
+        expect_found(&rt, &segments, place, wanted(first, second));
     }
     assert!(rt; segments.take(2, 8, FIRST));
     assert!(rt; !segments.take(2, 8, FIRST));
-    assert_eq!(rt; found_at(&rt, &segments, 5), wanted(false, true));
+    expect_found(&rt, &segments, (5, 0, 9), wanted(false, true));
     drop(segments);
 }

@@ -1,19 +1,17 @@
 //! Tests of the structures. They see only what is public, and stand apart so that a change of a test proves none of the
 //! crates anew.
 //!
-//! One file for each crate: `queues`, `stacks`, `deques` and `dictionaries` of the four fully retroactive structures, `bridges`
-//! of `bridge_pq`, `fusions` of `pq_fusion`, `checkpoints` of `checkpoint_full` over the first, `engines` of `engine`, and `plain_lists`
-//! of the plain list of `retro_base`. Most are tested through one `history`, which numbers the rows; `lines` and `listings` have what several files look at. Long histories
-//! and drawn ones are tried on the built program (`tests/limits.py`, `tests/drawn.py`). A test hands its structure to `drop` at its end, which
-//! is quick to prove where the end of a block is not.
+//! `lines` has queue, stack and deque, `dictionaries` the dictionary, `bridges` the queue of `bridge_pq`, `fusions` that of `pq_fusion`,
+//! `checkpoints` the first with its past, and `engines` the structure of any kind. All but `bridges` are tested through one `history`, which
+//! numbers the rows and plays a table of steps; the plain list of `retro_base` plays the tables of each kind too. `priority_queues` has those
+//! of that kind, and `listings` looks at a content. Long histories and drawn ones are tried on the built program (`tests/limits.py`,
+//! `tests/drawn.py`). A test hands its structure to `drop` at its end, which is quick to prove where the end of a block is not.
 #![tactic(auto)]
 
 #[cfg(test)]
 mod bridges;
 #[cfg(test)]
 mod checkpoints;
-#[cfg(test)]
-mod deques;
 #[cfg(test)]
 mod dictionaries;
 #[cfg(test)]
@@ -27,8 +25,4 @@ mod lines;
 #[cfg(test)]
 mod listings;
 #[cfg(test)]
-mod plain_lists;
-#[cfg(test)]
-mod queues;
-#[cfg(test)]
-mod stacks;
+mod priority_queues;
