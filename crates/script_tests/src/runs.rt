@@ -22,6 +22,27 @@ struct Given<'a> {
     writes: &'a [u32],
 }
 
+impl<'a> Given<'a> {
+    fn new(
+        words: &'a [&'a [u8]],
+        script: &'a [u8],
+        (piece, taking): (u32, u32),
+        (reads, writes): (&'a [u32], &'a [u32]),
+    ) -> Given<'a> {
+        Given {
+            words,
+            script,
+            piece,
+            taking,
+            reads,
+            writes,
+        }
+    }
+}
+
+/// What the sink has in the end, and the status.
+type Ended<'a> = (&'a [u8], Status);
+
 fn words_of(rt: &impl Abort, alloc: Global, given: &Given<'_>) -> Words {
     let mut words = Words::new(alloc);
     for word in given.words {
@@ -47,12 +68,7 @@ fn run_over<K: Sink>(rt: &impl Abort, alloc: Global, given: &Given<'_>, sink: &m
     run(alloc, &words, &mut source, sink)
 }
 
-fn expect_run(
-    rt: &impl Abort,
-    alloc: Global,
-    given: &Given<'_>,
-    (answers, status): (&[u8], Status),
-) {
+fn expect_run(rt: &impl Abort, alloc: Global, given: &Given<'_>, (answers, status): Ended<'_>) {
     let mut sink = sink_of(rt, alloc, given);
     let ended = run_over(rt, alloc, given, &mut sink);
     assert!(rt; sink.written() == answers);
@@ -64,7 +80,7 @@ fn expect_gathered(
     rt: &impl Abort,
     alloc: Global,
     given: &Given<'_>,
-    (answers, status): (&[u8], Status),
+    (answers, status): Ended<'_>,
 ) {
     let words = words_of(rt, alloc, given);
     let mut source = source_of(rt, alloc, given);
@@ -74,7 +90,15 @@ fn expect_gathered(
     assert!(rt; ended == status);
 }
 
+/// It runs so as it is, and over an outbox.
+fn expect_both(rt: &impl Abort, alloc: Global, given: Given<'_>, ended: Ended<'_>) {
+    expect_run(rt, alloc, &given, ended);
+    expect_gathered(rt, alloc, &given, ended);
+}
+
 const RUN: &[&[u8]] = &[b"run"];
+
+const FOLLOW: &[&[u8]] = &[b"follow"];
 
 const SCRIPT: &[u8] =
     b"new q queue\nq at 10 enq 5\nq at 20 enq 7\nq ask front\nq at 15 deq\nq ask front\n\
@@ -96,23 +120,9 @@ const STAGES: [(u32, u32, u32, usize); 9] = [
     (101, 102, 8, 39),
 ];
 
-/// The script over streams of which a read or a write fails, as it is and over an outbox.
-fn expect_fault(
-    rt: &impl Abort,
-    alloc: Global,
-    (reads, writes): (&[u32], &[u32]),
-    ended: (&[u8], Status),
-) {
-    let given = Given {
-        words: RUN,
-        script: SCRIPT,
-        piece: 1,
-        taking: 4096,
-        reads,
-        writes,
-    };
-    expect_run(rt, alloc, &given, ended);
-    expect_gathered(rt, alloc, &given, ended);
+/// The script in single bytes, over streams of which a read or a write fails.
+fn expect_fault(rt: &impl Abort, alloc: Global, faults: (&[u32], &[u32]), ended: Ended<'_>) {
+    expect_both(rt, alloc, Given::new(RUN, SCRIPT, (1, 4096), faults), ended);
 }
 
 /// Each read fails in turn, and each write: the answers to all lines before stand there. Over an outbox they have gone on by then.
@@ -122,20 +132,12 @@ fn a_fault_leaves_the_answers_before_it(rt: HostRuntime) {
         assert!(rt; length <= ANSWERS.len());
         let answers = &ANSWERS[..length];
         for read in from..to {
-            expect_fault(
-                &rt,
-                rt.alloc(),
-                (&[read], &[]),
-                (answers, Status::ReadFault),
-            );
+            let ended = (answers, Status::ReadFault);
+            expect_fault(&rt, rt.alloc(), (&[read], &[]), ended);
         }
         if write < 8 {
-            expect_fault(
-                &rt,
-                rt.alloc(),
-                (&[], &[write]),
-                (answers, Status::WriteFault),
-            );
+            let ended = (answers, Status::WriteFault);
+            expect_fault(&rt, rt.alloc(), (&[], &[write]), ended);
         }
     }
 }
@@ -150,14 +152,6 @@ fn no_call_comes_after_the_last_one(rt: HostRuntime) {
 #[test]
 fn a_write_that_fails_leaves_the_bytes_before_it(rt: HostRuntime) {
     for write in 0..40 {
-        let given = Given {
-            words: RUN,
-            script: SCRIPT,
-            piece: 512,
-            taking: 1,
-            reads: &[],
-            writes: &[write],
-        };
         let size = write as usize;
         assert!(rt; size <= ANSWERS.len());
         let status = if size < ANSWERS.len() {
@@ -165,8 +159,9 @@ fn a_write_that_fails_leaves_the_bytes_before_it(rt: HostRuntime) {
         } else {
             Status::Done
         };
-        expect_run(&rt, rt.alloc(), &given, (&ANSWERS[..size], status));
-        expect_gathered(&rt, rt.alloc(), &given, (&ANSWERS[..size], status));
+        let writes = [write];
+        let given = Given::new(RUN, SCRIPT, (512, 1), (&[], &writes));
+        expect_both(&rt, rt.alloc(), given, (&ANSWERS[..size], status));
     }
 }
 
@@ -178,78 +173,35 @@ fn a_read_that_fails_leaves_an_open_block_unanswered(rt: HostRuntime) {
         (b"timeline q queue next 3\n#1 10 enq 5\n", 1, 36, b""),
     ];
     for (script, piece, read, answers) in table {
-        let given = Given {
-            words: RUN,
-            script,
-            piece,
-            taking: 4096,
-            reads: &[read],
-            writes: &[],
-        };
-        let ended = (answers, Status::ReadFault);
-        expect_run(&rt, rt.alloc(), &given, ended);
-        expect_gathered(&rt, rt.alloc(), &given, ended);
+        let reads = [read];
+        let given = Given::new(RUN, script, (piece, 4096), (&reads, &[]));
+        expect_both(&rt, rt.alloc(), given, (answers, Status::ReadFault));
     }
 }
 
 /// Where all lines come in one read, their answers go on in one write: the second one would fail.
 #[test]
 fn held_lines_are_answered_in_one_write(rt: HostRuntime) {
-    let given = Given {
-        words: RUN,
-        script: SCRIPT,
-        piece: 512,
-        taking: 4096,
-        reads: &[],
-        writes: &[1],
-    };
+    let given = Given::new(RUN, SCRIPT, (512, 4096), (&[], &[1]));
     expect_gathered(&rt, rt.alloc(), &given, (ANSWERS, Status::Done));
 }
 
 /// A fault of reading leaves nothing of a judgement, and one of writing a part of it.
 #[test]
 fn each_status_has_its_code(rt: HostRuntime) {
+    let check: &[&[u8]] = &[b"check"];
+    let generate: &[&[u8]] = &[b"gen", b"pq", b"3", b"1"];
+    let (frob, edit) = (b"q frob\n", b"ok\nedit \n");
     let table: [(&[&[u8]], &[u8], &[u32], &[u32], &[u8], Status, u8); 6] = [
         (RUN, SCRIPT, &[], &[], ANSWERS, Status::Done, 0),
-        (
-            RUN,
-            b"q frob\n",
-            &[],
-            &[],
-            b"refused syntax\n",
-            Status::Refused,
-            1,
-        ),
+        (RUN, frob, &[], &[], b"refused syntax\n", Status::Refused, 1),
         (&[], SCRIPT, &[], &[], b"", Status::Words, 2),
-        (
-            &[b"check"],
-            b"ok\nedit \n",
-            &[2],
-            &[],
-            b"",
-            Status::ReadFault,
-            3,
-        ),
-        (&[b"check"], b"", &[], &[0], b"", Status::WriteFault, 4),
-        (
-            &[b"gen", b"pq", b"3", b"1"],
-            b"",
-            &[],
-            &[0],
-            b"",
-            Status::WriteFault,
-            4,
-        ),
+        (check, edit, &[2], &[], b"", Status::ReadFault, 3),
+        (check, b"", &[], &[0], b"", Status::WriteFault, 4),
+        (generate, b"", &[], &[0], b"", Status::WriteFault, 4),
     ];
     for (words, script, reads, writes, answers, status, code) in table {
-        let given = Given {
-            words,
-            script,
-            piece: 3,
-            taking: 4096,
-            reads,
-            writes,
-        };
+        let given = Given::new(words, script, (3, 4096), (reads, writes));
         expect_run(&rt, rt.alloc(), &given, (answers, status));
         assert!(rt; status.code() == code);
     }
@@ -293,14 +245,7 @@ impl Sink for FirstFlushFails {
 
 #[test]
 fn a_flush_that_fails_is_not_tried_again(rt: HostRuntime) {
-    let given = Given {
-        words: RUN,
-        script: SCRIPT,
-        piece: 512,
-        taking: 4096,
-        reads: &[],
-        writes: &[],
-    };
+    let given = Given::new(RUN, SCRIPT, (512, 4096), (&[], &[]));
     let mut sink = FirstFlushFails {
         flushes: 0,
         flushed: false,
@@ -311,108 +256,24 @@ fn a_flush_that_fails_is_not_tried_again(rt: HostRuntime) {
     assert!(rt; sink.flushes == 1);
 }
 
-/// The program with a tally and a mirror of `p` as followers.
-fn run_followed_over(
-    rt: &impl Abort,
-    alloc: Global,
-    given: &Given<'_>,
-    sink: &mut MemorySink,
-) -> Status {
-    let words = words_of(rt, alloc, given);
-    let mut source = source_of(rt, alloc, given);
-    let name = Name::read(b"p").expect(rt, "a name");
-    let tally = Box::new(alloc, Tally::new()).expect(rt, "memory");
-    let mirror = Box::new(alloc, Mirror::new(alloc, name)).expect(rt, "memory");
-    let mut followers: Vec<Box<dyn Follower>> = Vec::new(alloc);
-    followers.push(tally).expect(rt, "memory");
-    followers.push(mirror).expect(rt, "memory");
-    run_followed(alloc, &words, &mut source, sink, followers)
-}
-
+/// The program with these followers.
 fn expect_followed(
     rt: &impl Abort,
     alloc: Global,
     given: &Given<'_>,
-    (answers, status): (&[u8], Status),
+    followers: Vec<Box<dyn Follower>>,
+    (answers, status): Ended<'_>,
 ) {
+    let words = words_of(rt, alloc, given);
+    let mut source = source_of(rt, alloc, given);
     let mut sink = sink_of(rt, alloc, given);
-    let ended = run_followed_over(rt, alloc, given, &mut sink);
+    assert!(rt; followers.len() <= 1024);
+    let ended = run_followed(alloc, &words, &mut source, &mut sink, followers);
     assert!(rt; sink.written() == answers);
     assert!(rt; ended == status);
 }
 
-/// A fault leaves no report, or the reports before it; with the word `run` no follower is asked.
-#[test]
-fn followers_report_in_a_run(rt: HostRuntime) {
-    let follow: &[&[u8]] = &[b"follow", b"p"];
-    let jobs = b"new p pq\np at 10 ins 4\nmute 0\np at 1 ins 7\n";
-    let muted = b"new q queue\nmute 0\nq ask size\nq ask at 5 size\n";
-    let table: [(&[&[u8]], &[u8], &[u32], &[u32], &[u8], Status); 7] = [
-        (
-            follow,
-            jobs,
-            &[],
-            &[],
-            b"ok\nedit p add 0 #1 ins 4 bridge 0 gain #1 4\nreport 0 gains 1 losses 0 sum 4\n\
-              edit p add 0 #2 ins 7 bridge 0 gain #2 7\nreport 1 mirror p 4 7\n",
-            Status::Done,
-        ),
-        (
-            RUN,
-            b"mute 0\n",
-            &[],
-            &[],
-            b"refused no follower 0\n",
-            Status::Refused,
-        ),
-        (
-            &[b"follow"],
-            b"new q queue\nq ask size\n",
-            &[1],
-            &[],
-            b"ok\n",
-            Status::ReadFault,
-        ),
-        (
-            &[b"follow"],
-            b"new q queue\nq ask size\n",
-            &[],
-            &[2],
-            b"ok\n= 0\n",
-            Status::WriteFault,
-        ),
-        (
-            follow,
-            muted,
-            &[2],
-            &[],
-            b"ok\nreport 0 gains 0 losses 0 sum 0\n= 0\n",
-            Status::ReadFault,
-        ),
-        (follow, muted, &[], &[1], b"ok\n", Status::WriteFault),
-        (
-            follow,
-            muted,
-            &[],
-            &[3],
-            b"ok\nreport 0 gains 0 losses 0 sum 0\n= 0\n",
-            Status::WriteFault,
-        ),
-    ];
-    for (words, script, reads, writes, answers, status) in table {
-        let given = Given {
-            words,
-            script,
-            piece: 16,
-            taking: 4096,
-            reads,
-            writes,
-        };
-        expect_followed(&rt, rt.alloc(), &given, (answers, status));
-    }
-}
-
-/// So many tallies as followers.
+/// So many tallies.
 fn tallies(rt: &impl Abort, alloc: Global, count: u32) -> Vec<Box<dyn Follower>> {
     let mut followers: Vec<Box<dyn Follower>> = Vec::new(alloc);
     for _ in 0..count {
@@ -422,17 +283,46 @@ fn tallies(rt: &impl Abort, alloc: Global, count: u32) -> Vec<Box<dyn Follower>>
     followers
 }
 
+/// A tally, and a mirror of `p`.
+fn tally_and_mirror(rt: &impl Abort, alloc: Global) -> Vec<Box<dyn Follower>> {
+    let mut followers = tallies(rt, alloc, 1);
+    let name = Name::read(b"p").expect(rt, "a name");
+    let mirror = Box::new(alloc, Mirror::new(alloc, name)).expect(rt, "memory");
+    followers.push(mirror).expect(rt, "memory");
+    followers
+}
+
+/// A fault leaves no report, or the reports before it; with the word `run` no follower is asked.
+#[test]
+fn followers_report_in_a_run(rt: HostRuntime) {
+    let both: &[&[u8]] = &[b"follow", b"p"];
+    let jobs = b"new p pq\np at 10 ins 4\nmute 0\np at 1 ins 7\n";
+    let told = b"ok\nedit p add 0 #1 ins 4 bridge 0 gain #1 4\nreport 0 gains 1 losses 0 sum 4\n\
+        edit p add 0 #2 ins 7 bridge 0 gain #2 7\nreport 1 mirror p 4 7\n";
+    let nobody = b"refused no follower 0\n";
+    let queue = b"new q queue\nq ask size\n";
+    let muted = b"new q queue\nmute 0\nq ask size\nq ask at 5 size\n";
+    let report = b"ok\nreport 0 gains 0 losses 0 sum 0\n= 0\n";
+    let table: [(&[&[u8]], &[u8], &[u32], &[u32], &[u8], Status); 7] = [
+        (both, jobs, &[], &[], told, Status::Done),
+        (RUN, b"mute 0\n", &[], &[], nobody, Status::Refused),
+        (FOLLOW, queue, &[1], &[], b"ok\n", Status::ReadFault),
+        (FOLLOW, queue, &[], &[2], b"ok\n= 0\n", Status::WriteFault),
+        (both, muted, &[2], &[], report, Status::ReadFault),
+        (both, muted, &[], &[1], b"ok\n", Status::WriteFault),
+        (both, muted, &[], &[3], report, Status::WriteFault),
+    ];
+    for (words, script, reads, writes, answers, status) in table {
+        let given = Given::new(words, script, (16, 4096), (reads, writes));
+        let followers = tally_and_mirror(&rt, rt.alloc());
+        expect_followed(&rt, rt.alloc(), &given, followers, (answers, status));
+    }
+}
+
 /// Each follower reports, also of a script that changes no priority queue, and where there is none nothing is reported.
 #[test]
 fn each_follower_reports(rt: HostRuntime) {
-    let given = Given {
-        words: &[b"follow"],
-        script: SCRIPT,
-        piece: 512,
-        taking: 4096,
-        reads: &[],
-        writes: &[],
-    };
+    let given = Given::new(FOLLOW, SCRIPT, (512, 4096), (&[], &[]));
     let table: [(u32, &[u8]); 2] = [
         (0, ANSWERS),
         (
@@ -442,13 +332,7 @@ fn each_follower_reports(rt: HostRuntime) {
         ),
     ];
     for (count, written) in table {
-        let words = words_of(&rt, rt.alloc(), &given);
-        let mut source = source_of(&rt, rt.alloc(), &given);
-        let mut sink = sink_of(&rt, rt.alloc(), &given);
         let followers = tallies(&rt, rt.alloc(), count);
-        assert!(rt; followers.len() <= 1024);
-        let ended = run_followed(rt.alloc(), &words, &mut source, &mut sink, followers);
-        assert!(rt; sink.written() == written);
-        assert!(rt; ended == Status::Done);
+        expect_followed(&rt, rt.alloc(), &given, followers, (written, Status::Done));
     }
 }

@@ -1,21 +1,17 @@
 //! Edits that are undone and redone.
 
-use retro_base::{
-    Answer, Change, Item, Kind, MAX_NEXT, MAX_ROWS, Op, PlainList, Question, Retro, Row,
-};
+use retro_base::{Change, Kind, MAX_NEXT, MAX_ROWS, Op, PlainList, Row};
 use std::alloc::Global;
 use std::process::Abort;
 use timeline_undo::{EditError, Put, Session, Shift, Target, Turn, Turns, UndoError};
 
+/// A session over a plain list.
+type Plain = Session<PlainList>;
+
 const PUSH: Op = Op::Push { value: 1 };
 
 /// Puts a row in at a time, as a script does.
-fn put_at(
-    rt: &impl Abort,
-    session: &mut Session<PlainList>,
-    time: u64,
-    op: Op,
-) -> Result<Put, EditError> {
+fn put_at(rt: &impl Abort, session: &mut Plain, time: u64, op: Op) -> Result<Put, EditError> {
     assert!(rt; !session.spent());
     assert!(rt; op.kind() == session.kind());
     assert!(rt; session.next() < MAX_NEXT);
@@ -25,11 +21,7 @@ fn put_at(
 }
 
 /// Takes the row with this number out.
-fn cut_row(
-    rt: &impl Abort,
-    session: &mut Session<PlainList>,
-    number: u32,
-) -> Result<Turn, EditError> {
+fn cut_row(rt: &impl Abort, session: &mut Plain, number: u32) -> Result<Turn, EditError> {
     assert!(rt; !session.spent());
     let place = session
         .timeline()
@@ -39,7 +31,7 @@ fn cut_row(
 }
 
 /// The numbers of the rows are these, in this order.
-fn expect_numbers(rt: &impl Abort, session: &Session<PlainList>, numbers: &[u32]) {
+fn expect_numbers(rt: &impl Abort, session: &Plain, numbers: &[u32]) {
     assert!(rt; !session.spent());
     assert!(rt; session.timeline().len() as usize == numbers.len());
     for (place, number) in numbers.iter().enumerate() {
@@ -49,7 +41,7 @@ fn expect_numbers(rt: &impl Abort, session: &Session<PlainList>, numbers: &[u32]
 }
 
 /// The number that the next row draws.
-fn expect_next(rt: &impl Abort, session: &Session<PlainList>, number: u32) {
+fn expect_next(rt: &impl Abort, session: &Plain, number: u32) {
     assert!(rt; !session.spent());
     assert!(rt; session.next() == number);
 }
@@ -73,7 +65,7 @@ fn single(added: bool, place: u32, number: u32, time: u64, op: Op) -> Turns {
 /// Replaces the row with this number.
 fn shift_row(
     rt: &impl Abort,
-    session: &mut Session<PlainList>,
+    session: &mut Plain,
     number: u32,
     target: Target,
 ) -> Result<Shift, EditError> {
@@ -91,11 +83,7 @@ fn shift_row(
 }
 
 /// Puts rows in, each at its time, and sees what comes of it: the number that it draws, or why it is refused.
-fn expect_put(
-    rt: &impl Abort,
-    session: &mut Session<PlainList>,
-    rows: &[(u64, Op, Result<u32, EditError>)],
-) {
+fn expect_put(rt: &impl Abort, session: &mut Plain, rows: &[(u64, Op, Result<u32, EditError>)]) {
     for (time, op, expected) in rows {
         let found = put_at(rt, session, *time, *op).map(|put| put.number);
         assert!(rt; found == *expected);
@@ -104,38 +92,25 @@ fn expect_put(
 
 fn expect_cut(
     rt: &impl Abort,
-    session: &mut Session<PlainList>,
+    session: &mut Plain,
     number: u32,
     expected: Result<Turn, EditError>,
 ) {
     assert!(rt; cut_row(rt, session, number) == expected);
 }
 
-fn expect_undone(
-    rt: &impl Abort,
-    session: &mut Session<PlainList>,
-    steps: &[Result<Turns, UndoError>],
-) {
+fn expect_undone(rt: &impl Abort, session: &mut Plain, steps: &[Result<Turns, UndoError>]) {
     for expected in steps {
         assert!(rt; !session.spent());
         assert!(rt; session.undo() == *expected);
     }
 }
 
-fn expect_redone(
-    rt: &impl Abort,
-    session: &mut Session<PlainList>,
-    steps: &[Result<Turns, UndoError>],
-) {
+fn expect_redone(rt: &impl Abort, session: &mut Plain, steps: &[Result<Turns, UndoError>]) {
     for expected in steps {
         assert!(rt; !session.spent());
         assert!(rt; session.redo() == *expected);
     }
-}
-
-/// A session without rows, whose first row draws number 1.
-fn empty(rt: &impl Abort, alloc: Global, kind: Kind) -> Session<PlainList> {
-    Session::new(alloc, PlainList::new(alloc, kind), 1).expect(rt, "memory")
 }
 
 fn fails(number: u32, time: u64) -> EditError {
@@ -143,8 +118,9 @@ fn fails(number: u32, time: u64) -> EditError {
 }
 
 /// A session of a stack whose rows #1 and #2 push at 10 and pop at 20; two others were refused.
-fn push_and_pop(rt: &impl Abort, alloc: Global) -> Session<PlainList> {
-    let mut session = empty(rt, alloc, Kind::Stack);
+fn push_and_pop(rt: &impl Abort, alloc: Global) -> Plain {
+    let stack = PlainList::new(alloc, Kind::Stack);
+    let mut session = Session::new(alloc, stack, 1).expect(rt, "memory");
     let rows = [
         (10, PUSH, Ok(1)),
         (5, Op::Pop, Err(fails(2, 5))),
@@ -156,7 +132,7 @@ fn push_and_pop(rt: &impl Abort, alloc: Global) -> Session<PlainList> {
 }
 
 /// Another step empties what can be redone.
-fn expect_steps(rt: &impl Abort, session: &mut Session<PlainList>) {
+fn expect_steps(rt: &impl Abort, session: &mut Plain) {
     let nothing = Err(UndoError::Nothing);
     let put = single(false, 0, 1, 10, PUSH);
     let again = single(true, 0, 1, 10, PUSH);
@@ -179,7 +155,7 @@ fn steps_are_undone_and_made_again(rt: HostRuntime) {
 }
 
 /// A row that adds is put in before the old one is cut, and one that takes after it.
-fn expect_shifts(rt: &impl Abort, session: &mut Session<PlainList>) {
+fn expect_shifts(rt: &impl Abort, session: &mut Plain) {
     let rows = [
         (
             1,
@@ -208,7 +184,7 @@ fn expect_shifts(rt: &impl Abort, session: &mut Session<PlainList>) {
 }
 
 /// Undo and redo make both edits of a step.
-fn expect_both_edits(rt: &impl Abort, session: &mut Session<PlainList>) {
+fn expect_both_edits(rt: &impl Abort, session: &mut Plain) {
     let first_back = Turns::Double {
         first: turn(true, 0, 1, 10, PUSH),
         second: turn(false, 1, 3, 15, PUSH),
@@ -233,57 +209,5 @@ fn rows_are_replaced_in_one_step(rt: HostRuntime) {
     expect_shifts(&rt, &mut session);
     expect_both_edits(&rt, &mut session);
     expect_next(&rt, &session, 5);
-    drop(session);
-}
-
-/// What is asked of a place, and the whole content there.
-fn expect_at(
-    rt: &impl Abort,
-    session: &mut Session<PlainList>,
-    place: u32,
-    (top, items): (Answer, &[Item]),
-) {
-    assert!(rt; !session.spent());
-    assert!(rt; place <= session.timeline().len());
-    assert!(rt; Question::Top.suits(session.kind()));
-    assert!(rt; session.ask(place, Question::Top).expect(rt, "memory") == top);
-    let listing = session.all(place).expect(rt, "memory");
-    assert!(rt; listing.len() as usize == items.len());
-    for (index, item) in items.iter().enumerate() {
-        assert!(rt; index < listing.len() as usize);
-        assert!(rt; listing.item(index as u32) == *item);
-    }
-}
-
-#[test]
-fn each_place_is_asked(rt: HostRuntime) {
-    let mut session = empty(&rt, rt.alloc(), Kind::Stack);
-    expect_put(&rt, &mut session, &[(10, PUSH, Ok(1))]);
-    let one = Answer::Number { value: 1 };
-    expect_at(&rt, &mut session, 0, (Answer::Nothing, &[]));
-    expect_at(&rt, &mut session, 1, (one, &[Item::Single { value: 1 }]));
-    drop(session);
-}
-
-/// A row of a block that is read is no step.
-fn appended(rt: &impl Abort, alloc: Global) -> Session<PlainList> {
-    let queue = PlainList::new(alloc, Kind::Queue);
-    let mut session = Session::new(alloc, queue, 9).expect(rt, "memory");
-    let row = Row {
-        number: 7,
-        time: 5,
-        op: Op::Enq { value: 1 },
-    };
-    let failing = session.structure().failure_after_insert(0, row.op);
-    assert!(rt; failing == None);
-    assert!(rt; session.append(row).expect(rt, "memory") == Change::Plain);
-    session
-}
-
-#[test]
-fn a_row_is_appended(rt: HostRuntime) {
-    let mut session = appended(&rt, rt.alloc());
-    expect_undone(&rt, &mut session, &[Err(UndoError::Nothing)]);
-    expect_numbers(&rt, &session, &[7]);
     drop(session);
 }
