@@ -1,7 +1,6 @@
 -- Items that are collected span by span are those that are there at a label.
-use Rattle.std.proofs.Common.{◌≡◌, ℕ, suc, ◌+◌, ◌-◌, ◌≤◌, ◌<◌, Bool, true, false, cond, List, [], ◌∷◌, ◌++◌, map, length, take, drop, sym, ap, ◌∙◌, arith, append_assoc}
-use Rattle.std.specs.Prelude.{◌^◌, nat_lt}
-use Rattle.std.proofs.lemmas.Bool.Decides.{nat_tests}
+use Rattle.std.proofs.Common.{◌≡◌, ℕ, ◌+◌, ◌-◌, ◌≤◌, ◌<◌, Bool, List, [], ◌∷◌, ◌++◌, map, length, take, drop, sym, ap, ◌∙◌, arith, append_assoc}
+use Rattle.std.specs.Prelude.{◌^◌}
 use Rattle.std.proofs.lemmas.List.{map-id, take_all, append-nil, drop_all}
 use Rattle.std.proofs.Math.Seq.{take-append_seam}
 use Rattle.weighted_tree.specs.Reads.{overwritten}
@@ -12,10 +11,11 @@ use Rattle.lifetime_segments.specs.Lawful.{most_items}
 use Rattle.lifetime_segments.specs.Lifetimes.{items_at}
 use Rattle.lifetime_segments.specs.Ordered.{IsOrder, put_in, in_order}
 use Rattle.lifetime_segments.specs.OrderedLaws.{length-in_order}
-use Rattle.lifetime_segments.specs.Tries.{IsOfNode, in_first, in_second, items_below, CollectsAt, NodeCollectsAt}
+use Rattle.lifetime_segments.specs.Tries.{Collects, IsOf, IsOfNode, first_part, items_below, second_part, taken}
 use Rattle.lifetime_segments.proofs.FewLives.{few_of}
 use Rattle.lifetime_segments.proofs.Moved.{few_items}
-use Rattle.lifetime_segments.proofs.Nodes.{absorbs_after, items_at-few, node_at, node_at_zero, node_left, node_right}
+use Rattle.lifetime_segments.proofs.Nodes.{absorbs_after, items_at-few, node_at, node_at_zero}
+use Rattle.lifetime_segments.proofs.Spans.{items_below-first, items_below-second}
 
 -- items that were read over as many others
 pub read_all : {A : Type 0} (items former new rest : List A) (count room : ℕ) → count ≡ length items → length former ≡ count → room ≡ count
@@ -33,40 +33,31 @@ module _ {A : Type 0} {before : A → A → Bool} (order : IsOrder before) where
 
   module _ {M : Type 0} where
     -- those of few lifetimes
-    pub collects_few : (level label : ℕ) (few : List (Lifetime A)) (trie : Trie A M) (old new : List A) → label < 2 ^ level → trie ≡ Few few → new ≡ old ++ items_at label few
-        → CollectsAt before level label trie old new
-    collects_few level label few trie old new within is items lives is_of =
+    pub collects_few : (level label : ℕ) (few : List (Lifetime A)) (trie : Trie A M) (old new : List A) → trie ≡ Few few → new ≡ old ++ items_at label few → Collects before (items_at label) (IsOf before level trie) old new
+    collects_few level label few trie old new is items lives is_of =
         ap (in_order before) items
-        ∙ one_after old (items_at label few) (items_at label lives) (few_items order level label lives few within (few_of before level lives few trie is is_of))
+        ∙ one_after old (items_at label few) (items_at label lives) (few_items order label lives few (few_of before level lives few trie is is_of).1)
 
-    pub collects_zero : (level label : ℕ) (node : Node A M) (old new : List A) (lives : List (Lifetime A)) → level ≡ 0 → label < 2 ^ level → new ≡ old ++ node.items
-        → IsOfNode before level lives node → in_order before new ≡ in_order before (old ++ items_at label lives)
-    collects_zero level label node old new lives bottom within is is_of =
-        ap (in_order before) is
-        ∙ ap (λ xs. in_order before (old ++ xs)) (node_at_zero order level label lives node bottom within is_of)
-        ∙ absorbs_after order old (items_at label lives)
+    module _ (level label : ℕ) (node : Node A M) (old new : List A) where
+      pub collects_zero : level ≡ 0 → label < 2 ^ level → new ≡ old ++ node.items → Collects before (items_at label) (IsOfNode before level node) old new
+      collects_zero bottom within is lives is_of =
+          ap (in_order before) is
+          ∙ ap (λ xs. in_order before (old ++ xs)) (node_at_zero order level label lives node within is_of bottom)
+          ∙ absorbs_after order old (items_at label lives)
 
-    pub collects_more : (level label : ℕ) (node : Node A M) (old own new : List A) (lives : List (Lifetime A)) → label < 2 ^ suc level → own ≡ old ++ node.items
-        → NodeCollectsAt before level label node own new → IsOfNode before (suc level) lives node → in_order before new ≡ in_order before (old ++ items_at label lives)
-    collects_more level label node old own new lives within is below is_of =
-        let items = items_below level label lives in
-        below lives is_of
-        ∙ ap (λ xs. in_order before (xs ++ items)) is
-        ∙ ap (in_order before) (append_assoc old node.items items)
-        ∙ one_after old (node.items ++ items) (items_at label lives) (sym (absorbs_after order node.items items) ∙ node_at order level label lives node within is_of)
+      pub collects_more : (own : List A) → label < 2 ^ level → own ≡ old ++ node.items → Collects before (items_below level label) (IsOfNode before level node) own new → Collects before (items_at label) (IsOfNode before level node) old new
+      collects_more own within is below lives is_of =
+          let items = items_below level label lives in
+          below lives is_of
+          ∙ ap (λ xs. in_order before (xs ++ items)) is
+          ∙ ap (in_order before) (append_assoc old node.items items)
+          ∙ one_after old (node.items ++ items) (items_at label lives) (sym (absorbs_after order node.items items) ∙ node_at order level label lives node within is_of)
 
-    pub collects_first : (level label : ℕ) (node : Node A M) (old new : List A) → label < 2 ^ level → CollectsAt before level label node.left old new → NodeCollectsAt before level label node old new
-    collects_first level label node old new within left lives is_of =
-        let near : nat_lt label (2 ^ level) ≡ true = grind (arith, nat_tests) in
-        left (in_first level lives) (node_left before level lives node is_of)
-        ∙ ap (λ b. in_order before (old ++ cond b (items_at label (in_first level lives)) (items_at (label - 2 ^ level) (in_second level lives)))) (sym near)
+      pub collects_first : label < 2 ^ (level - 1) → Collects before (items_at label) (IsOf before (level - 1) node.left) old new → Collects before (items_below level label) (IsOfNode before level node) old new
+      collects_first within left lives is_of = left (taken (first_part level) lives) is_of.left ∙ ap (λ xs. in_order before (old ++ xs)) (items_below-first level label lives within)
 
-    pub collects_second : (level label : ℕ) (node : Node A M) (old new : List A) → 2 ^ level ≤ label → CollectsAt before level (label - 2 ^ level) node.right old new
-        → NodeCollectsAt before level label node old new
-    collects_second level label node old new from right lives is_of =
-        let far : nat_lt label (2 ^ level) ≡ false = grind (arith, nat_tests) in
-        right (in_second level lives) (node_right before level lives node is_of)
-        ∙ ap (λ b. in_order before (old ++ cond b (items_at label (in_first level lives)) (items_at (label - 2 ^ level) (in_second level lives)))) (sym far)
+      pub collects_second : 2 ^ (level - 1) ≤ label → Collects before (items_at (label - 2 ^ (level - 1))) (IsOf before (level - 1) node.right) old new → Collects before (items_below level label) (IsOfNode before level node) old new
+      collects_second from right lives is_of = right (taken (second_part level) lives) is_of.right ∙ ap (λ xs. in_order before (old ++ xs)) (items_below-second level label lives from)
 
 -- no more are collected than there are lifetimes
 pub collected-few : {A : Type 0} (before : A → A → Bool) (label : ℕ) (lives : List (Lifetime A)) (items : List A) → length lives ≤ most_items → in_order before items ≡ in_order before (items_at label lives)

@@ -1,11 +1,9 @@
 mod Places
 mod Taken
 mod Spans
-mod Parts
 mod Moved
 mod Nodes
 mod FewLives
-mod MovedEnds
 mod Results
 mod Held
 mod Collected

@@ -1,92 +1,163 @@
 -- What lies in a span and in its halves.
-use Rattle.std.proofs.Common.{◌≡◌, ℕ, suc, ◌+◌, ◌-◌, ◌*◌, ◌≤◌, ◌<◌, Bool, true, false, cond, not, List, [], ◌∷◌, ◌++◌, refl, sym, ap, ◌∙◌, arith}
-use Rattle.std.specs.Prelude.{◌^◌, ◌&&◌, nat_le, nat_lt, map}
-use Rattle.std.specs.List.{filter}
+use Rattle.std.proofs.Common.{◌≡◌, ℕ, zero, suc, ◌+◌, ◌-◌, ◌*◌, ◌≤◌, ◌<◌, ◌⊎◌, Bool, true, false, cond, List, [], ◌∷◌, ◌++◌, Option, Some, None, inl, inr, refl, sym, ap, ◌∙◌, arith}
+use Rattle.std.specs.Prelude.{◌^◌, ◌&&◌, min, nat_le, nat_lt}
+use Rattle.std.specs.List.{AllByRecursion}
 use Rattle.std.proofs.Math.Nat.{pow-succ'}
 use Rattle.std.proofs.lemmas.Bool.Decides.{nat_tests}
 use Rattle.lifetime_segments.specs.declared.lifetime.Lifetime.{Lifetime}
-use Rattle.lifetime_segments.specs.Ordered.{IsOrder, put_in, in_order}
-use Rattle.lifetime_segments.specs.OrderedLaws.{in_order-middle}
+use Rattle.lifetime_segments.specs.Ordered.{IsOrder, in_order}
 use Rattle.lifetime_segments.specs.Lifetimes.{holds, items_at}
-use Rattle.lifetime_segments.specs.Tries.{is_whole, wholes, in_first, in_second, seen_from}
+use Rattle.lifetime_segments.specs.Tries.{Lies, ending, seen_from, is_whole, whole_item, first_part, second_part, items_below, taken, with}
+use Rattle.lifetime_segments.proofs.Taken.{after, mapped, none-with, taken-either, taken-taken}
 
 -- a span is twice its half
-pub double : (level : ℕ) → 2 ^ suc level ≡ 2 ^ level + 2 ^ level
-double level = let twice : 2 ^ suc level ≡ 2 * 2 ^ level = pow-succ' 2 level in omega arith
+pub double : (level : ℕ) → 0 < level → 2 ^ level ≡ 2 ^ (level - 1) + 2 ^ (level - 1)
+double level deep =
+    let down : level ≡ suc (level - 1) = omega arith in
+    let twice : 2 ^ suc (level - 1) ≡ 2 * 2 ^ (level - 1) = pow-succ' 2 (level - 1) in
+    let same : 2 ^ level ≡ 2 ^ suc (level - 1) = ap (λ n. 2 ^ n) down in
+    omega arith
 
-module _ {A X : Type 0} {before : A → A → Bool} (order : IsOrder before) (item : X → A) (whole part there : X → Bool) (seen : X → X) (there_seen : X → Bool) where
-  -- elements that are taken whole, and those of the others that are seen in part, make all that are there
-  pub split-in_order : ((x : X) → item (seen x) ≡ item x) → ((x : X) → there_seen (seen x) ≡ there x) → ((x : X) → whole x ≡ true → there x ≡ true) → ((x : X) → whole x ≡ false → there x ≡ true → part x ≡ true)
-      → (xs : List X) → in_order before (map item (filter whole xs) ++ map item (filter there_seen (map seen (filter (λ x. not (whole x) && part x) xs)))) ≡ in_order before (map item (filter there xs))
-  split-in_order same_item same_there whole_there part_there [] = refl
-  split-in_order same_item same_there whole_there part_there (x ∷ xs) =
-      let wholes = filter whole xs in
-      let parts = filter (λ x. not (whole x) && part x) xs in
-      let all = filter there xs in
-      let rest = split-in_order same_item same_there whole_there part_there xs in
-      elim (whole x) as (λ a. whole x ≡ a → in_order before (map item (cond a (x ∷ wholes) wholes)
-      ++ map item (filter there_seen (map seen (cond (not a && part x) (x ∷ parts) parts)))) ≡ in_order before (map item (cond (there x) (x ∷ all) all))) [
-        | true ↦ λ taken. ap (put_in before (item x)) rest ∙ sym (ap (λ c. in_order before (map item (cond c (x ∷ all) all))) (whole_there x taken))
-        | false ↦ λ broken. elim (part x) as (λ b. part x ≡ b
-            → in_order before (map item wholes ++ map item (filter there_seen (map seen (cond b (x ∷ parts) parts))))
-            ≡ in_order before (map item (cond (there x) (x ∷ all) all))) [
-              | true ↦ λ _. elim (there x) as (λ c. there x ≡ c → in_order before
-                  (map item wholes ++ map item (cond (there_seen (seen x)) (seen x ∷ filter there_seen (map seen parts)) (filter there_seen (map seen parts))))
-                  ≡ in_order before (map item (cond c (x ∷ all) all))) [
-                    | true ↦ λ here.
-                        ap (λ c. in_order before (map item wholes ++ map item (cond c (seen x ∷ filter there_seen (map seen parts)) (filter there_seen (map seen parts))))) (same_there x ∙ here)
-                        ∙ in_order-middle order (item (seen x)) (map item wholes) (map item (filter there_seen (map seen parts)))
-                        ∙ ap (λ i. put_in before i (in_order before (map item wholes ++ map item (filter there_seen (map seen parts))))) (same_item x)
-                        ∙ ap (put_in before (item x)) rest
-                    | false ↦ λ gone. ap (λ c. in_order before (map item wholes ++ map item (cond c (seen x ∷ filter there_seen (map seen parts)) (filter there_seen (map seen parts))))) (same_there x ∙ gone) ∙ rest
-                  ] refl
-              | false ↦ λ past. rest ∙ sym (ap (λ c. in_order before (map item (cond c (x ∷ all) all))) (nowhere broken past))
-            ] refl
-      ] refl where
-        nowhere : whole x ≡ false → part x ≡ false → there x ≡ false
-        nowhere broken past = elim (there x) as (λ c. there x ≡ c → c ≡ false) [
-          | true ↦ λ here. sym (part_there x broken here) ∙ past
-          | false ↦ λ _. refl
+module _ {A : Type 0} where
+  -- a lifetime that lies in a span and is not whole there lies in its halves
+  pub has_halves : (level : ℕ) (life : Lifetime A) → Lies level life → is_whole level life ≡ false → 0 < level
+  has_halves zero life lies broken = let rises = lies.rises in let within = lies.within in absurd (grind (arith, nat_tests))
+  has_halves (suc level) life lies broken = omega arith
+
+  pub whole-here : (level : ℕ) (life : Lifetime A) → is_whole level life ≡ true → whole_item level life ≡ Some life.item
+  whole-here level life whole = ap (λ b. cond b (Some life.item) None) whole
+
+  pub whole-none : (level : ℕ) (life : Lifetime A) → is_whole level life ≡ false → whole_item level life ≡ None
+  whole-none level life broken = ap (λ b. cond b (Some life.item) None) broken
+
+  -- where it is whole nothing of it lies in a half, and else what there is
+  pub first-at : (level : ℕ) (life : Lifetime A) (b : Bool) → is_whole level life ≡ b → first_part level life ≡ cond b None (cond (nat_lt life.from (2 ^ (level - 1))) (Some (ending (min life.to (2 ^ (level - 1))) life)) None)
+  first-at level life b is = ap (λ b. cond b None (cond (nat_lt life.from (2 ^ (level - 1))) (Some (ending (min life.to (2 ^ (level - 1))) life)) None)) is
+
+  second-at : (level : ℕ) (life : Lifetime A) (b : Bool) → is_whole level life ≡ b → second_part level life ≡ cond b None (cond (nat_lt (2 ^ (level - 1)) life.to) (Some (seen_from (2 ^ (level - 1)) life)) None)
+  second-at level life b is = ap (λ b. cond b None (cond (nat_lt (2 ^ (level - 1)) life.to) (Some (seen_from (2 ^ (level - 1)) life)) None)) is
+
+  pub first-whole : (level : ℕ) (life : Lifetime A) → is_whole level life ≡ true → first_part level life ≡ None
+  first-whole level life whole = first-at level life true whole
+
+  pub second-whole : (level : ℕ) (life : Lifetime A) → is_whole level life ≡ true → second_part level life ≡ None
+  second-whole level life whole = second-at level life true whole
+
+  pub first-is : (level : ℕ) (life : Lifetime A) → is_whole level life ≡ false → life.from < 2 ^ (level - 1) → first_part level life ≡ Some (ending (min life.to (2 ^ (level - 1))) life)
+  first-is level life broken begins =
+      let near : nat_lt life.from (2 ^ (level - 1)) ≡ true = grind (arith, nat_tests) in
+      first-at level life false broken ∙ ap (λ b. cond b (Some (ending (min life.to (2 ^ (level - 1))) life)) None) near
+
+  pub second-is : (level : ℕ) (life : Lifetime A) → is_whole level life ≡ false → 2 ^ (level - 1) < life.to → second_part level life ≡ Some (seen_from (2 ^ (level - 1)) life)
+  second-is level life broken ends =
+      let far : nat_lt (2 ^ (level - 1)) life.to ≡ true = grind (arith, nat_tests) in
+      second-at level life false broken ∙ ap (λ b. cond b (Some (seen_from (2 ^ (level - 1)) life)) None) far
+
+  pub second-none : (level : ℕ) (life : Lifetime A) → is_whole level life ≡ false → life.to ≤ 2 ^ (level - 1) → second_part level life ≡ None
+  second-none level life broken ends =
+      let near : nat_lt (2 ^ (level - 1)) life.to ≡ false = grind (arith, nat_tests) in
+      second-at level life false broken ∙ ap (λ b. cond b (Some (seen_from (2 ^ (level - 1)) life)) None) near
+
+  -- where nothing lies in the span itself nor in its halves, nothing lies in it
+  pub none_lie : (level : ℕ) (lives : List (Lifetime A)) → AllByRecursion (Lies level) lives → taken (whole_item level) lives ≡ [] → taken (first_part level) lives ≡ [] → taken (second_part level) lives ≡ [] → lives ≡ []
+  none_lie level [] lie no_wholes no_firsts no_seconds = refl
+  none_lie level (life ∷ lives) lie no_wholes no_firsts no_seconds =
+      absurd (nowhere lie.0 (none-with (whole_item level life) _ no_wholes) (none-with (first_part level life) _ no_firsts) (none-with (second_part level life) _ no_seconds)) where
+        refused : {Y : Type 0} (b : Bool) (y : Y) → cond b (Some y) None ≡ None → b ≡ false
+        refused true y none = absurd (cc)
+        refused false y none = refl
+
+        nowhere : Lies level life → whole_item level life ≡ None → first_part level life ≡ None → second_part level life ≡ None → ⊥
+        nowhere lies no_whole no_first no_second =
+            let broken : is_whole level life ≡ false = refused (is_whole level life) life.item no_whole in
+            let far : nat_lt life.from (2 ^ (level - 1)) ≡ false = refused _ (ending (min life.to (2 ^ (level - 1))) life) (sym (first-at level life false broken) ∙ no_first) in
+            let near : nat_lt (2 ^ (level - 1)) life.to ≡ false = refused _ (seen_from (2 ^ (level - 1)) life) (sym (second-at level life false broken) ∙ no_second) in
+            let rises = lies.rises in
+            grind (arith, nat_tests)
+
+  -- the item of a lifetime that holds a label
+  abbrev pub item_there : ℕ → Lifetime A → Option A
+  item_there label life = cond (holds label life) (Some life.item) None
+
+  pub items-taken : (label : ℕ) (lives : List (Lifetime A)) → items_at label lives ≡ taken (item_there label) lives
+  items-taken label lives = mapped (holds label) (λ life. life.item) lives
+
+  item-none : (label : ℕ) (life : Lifetime A) → holds label life ≡ false → None ≡ item_there label life
+  item-none label life gone = sym (ap (λ b. cond b (Some life.item) None) gone)
+
+  -- it is there by what of the lifetime lies in the half of the label
+  first-there : (level label : ℕ) (life : Lifetime A) → label < 2 ^ (level - 1) → is_whole level life ≡ false → after (first_part level life) (item_there label) ≡ item_there label life
+  first-there level label life within broken =
+      ap (λ o. after o (item_there label)) (first-at level life false broken)
+      ∙ (elim (nat_lt life.from (2 ^ (level - 1))) as
+      (λ b. nat_lt life.from (2 ^ (level - 1)) ≡ b → after (cond b (Some (ending (min life.to (2 ^ (level - 1))) life)) None) (item_there label) ≡ item_there label life) [
+        | true ↦ λ near. ap (λ b. cond (nat_le life.from label && b) (Some life.item) None) (cut label life.to (2 ^ (level - 1)) within)
+        | false ↦ λ far. item-none label life (grind (arith, nat_tests))
+      ] refl) where
+        cut : (label to half : ℕ) → label < half → nat_lt label (min to half) ≡ nat_lt label to
+        cut label to half within = grind (arith, nat_tests)
+
+  second-there : (level label : ℕ) (life : Lifetime A) → 2 ^ (level - 1) ≤ label → is_whole level life ≡ false → after (second_part level life) (item_there (label - 2 ^ (level - 1))) ≡ item_there label life
+  second-there level label life within broken =
+      ap (λ o. after o (item_there (label - 2 ^ (level - 1)))) (second-at level life false broken)
+      ∙ (elim (nat_lt (2 ^ (level - 1)) life.to) as
+      (λ b. nat_lt (2 ^ (level - 1)) life.to ≡ b → after (cond b (Some (seen_from (2 ^ (level - 1)) life)) None) (item_there (label - 2 ^ (level - 1))) ≡ item_there label life) [
+        | true ↦ λ far. ap (λ b. cond b (Some life.item) None) (seen (2 ^ (level - 1)) label life.from life.to within)
+        | false ↦ λ near. item-none label life (grind (arith, nat_tests))
+      ] refl) where
+        seen : (half label from to : ℕ) → half ≤ label → (nat_le (from - half) (label - half) && nat_lt (label - half) (to - half)) ≡ (nat_le from label && nat_lt label to)
+        seen half label from to after = grind (arith, nat_tests)
+
+  -- those below a span are those of the half of the label
+  pub items_below-first : (level label : ℕ) (lives : List (Lifetime A)) → label < 2 ^ (level - 1) → items_at label (taken (first_part level) lives) ≡ items_below level label lives
+  items_below-first level label lives within =
+      let near : nat_lt label (2 ^ (level - 1)) ≡ true = grind (arith, nat_tests) in
+      sym (ap (λ b. cond b (items_at label (taken (first_part level) lives)) (items_at (label - 2 ^ (level - 1)) (taken (second_part level) lives))) near)
+
+  pub items_below-second : (level label : ℕ) (lives : List (Lifetime A)) → 2 ^ (level - 1) ≤ label → items_at (label - 2 ^ (level - 1)) (taken (second_part level) lives) ≡ items_below level label lives
+  items_below-second level label lives within =
+      let far : nat_lt label (2 ^ (level - 1)) ≡ false = grind (arith, nat_tests) in
+      sym (ap (λ b. cond b (items_at label (taken (first_part level) lives)) (items_at (label - 2 ^ (level - 1)) (taken (second_part level) lives))) far)
+
+  -- at level 0 all items that are there lie in the span itself
+  pub zero_items : (lives : List (Lifetime A)) → items_at 0 lives ≡ taken (whole_item 0) lives
+  zero_items lives = items-taken 0 lives ∙ same lives where
+    whole : (life : Lifetime A) → holds 0 life ≡ is_whole 0 life
+    whole life = grind (arith, nat_tests)
+
+    same : (lives : List (Lifetime A)) → taken (item_there 0) lives ≡ taken (whole_item 0) lives
+    same [] = refl
+    same (life ∷ lives) = ap (with (item_there 0 life)) (same lives) ∙ ap (λ b. with (cond b (Some life.item) None) (taken (whole_item 0) lives)) (whole life)
+
+  module _ {before : A → A → Bool} (order : IsOrder before) where
+    -- the items in a span itself and those of one of its halves are those that are there at a label of this half
+    half-in_order : (part : Lifetime A → Option (Lifetime A)) (level label seen : ℕ) → label < 2 ^ level → ((life : Lifetime A) → is_whole level life ≡ true → part life ≡ None)
+        → ((life : Lifetime A) → is_whole level life ≡ false → after (part life) (item_there seen) ≡ item_there label life) → (lives : List (Lifetime A))
+        → in_order before (taken (whole_item level) lives ++ items_at seen (taken part lives)) ≡ in_order before (items_at label lives)
+    half-in_order part level label seen within none there lives =
+        ap (λ items. in_order before (taken (whole_item level) lives ++ items)) (items-taken seen (taken part lives) ∙ taken-taken part (item_there seen) lives)
+        ∙ taken-either order (whole_item level) (λ life. after (part life) (item_there seen)) (item_there label) each lives
+        ∙ sym (ap (in_order before) (items-taken label lives)) where
+          holds_all : (life : Lifetime A) → is_whole level life ≡ true → holds label life ≡ true
+          holds_all life whole = grind (arith, nat_tests)
+
+          each : (life : Lifetime A)
+              → ((after (part life) (item_there seen) ≡ None) × (whole_item level life ≡ item_there label life)) ⊎ ((whole_item level life ≡ None) × (after (part life) (item_there seen) ≡ item_there label life))
+          each life = elim (is_whole level life) as (λ b. is_whole level life ≡ b
+              → ((after (part life) (item_there seen) ≡ None) × (whole_item level life ≡ item_there label life)) ⊎ ((whole_item level life ≡ None) × (after (part life) (item_there seen) ≡ item_there label life))) [
+                | true ↦ λ whole. inl (ap (λ o. after o (item_there seen)) (none life whole), whole-here level life whole ∙ sym (ap (λ b. cond b (Some life.item) None) (holds_all life whole)))
+                | false ↦ λ broken. inr (whole-none level life broken, there life broken)
+              ] refl
+
+    pub items_below-in_order : (level label : ℕ) (lives : List (Lifetime A)) → label < 2 ^ level → in_order before (taken (whole_item level) lives ++ items_below level label lives) ≡ in_order before (items_at label lives)
+    items_below-in_order level label lives within = elim (nat_lt label (2 ^ (level - 1))) as (λ b. nat_lt label (2 ^ (level - 1)) ≡ b
+        → in_order before (taken (whole_item level) lives ++ items_below level label lives) ≡ in_order before (items_at label lives)) [
+          | true ↦ λ near.
+              let first : label < 2 ^ (level - 1) = grind (arith, nat_tests) in
+              ap (λ items. in_order before (taken (whole_item level) lives ++ items)) (sym (items_below-first level label lives first))
+              ∙ half-in_order (first_part level) level label label within (first-whole level) (λ life broken. first-there level label life first broken) lives
+          | false ↦ λ far.
+              let second : 2 ^ (level - 1) ≤ label = grind (arith, nat_tests) in
+              ap (λ items. in_order before (taken (whole_item level) lives ++ items)) (sym (items_below-second level label lives second))
+              ∙ half-in_order (second_part level) level label (label - 2 ^ (level - 1)) within (second-whole level) (λ life broken. second-there level label life second broken) lives
         ] refl
-
-pub map-same : {X : Type 0} (xs : List X) → map (λ x. x) xs ≡ xs
-map-same [] = refl
-map-same (x ∷ xs) = ap (λ zs. x ∷ zs) (map-same xs)
-
--- a lifetime of the whole span holds each of its labels
-whole_holds : {A : Type 0} (level label : ℕ) (life : Lifetime A) → label < 2 ^ level → is_whole level life ≡ true → holds label life ≡ true
-whole_holds level label life within whole = grind (arith, nat_tests)
-
--- one that holds a label of the first half begins there
-holds_first : {A : Type 0} (level label : ℕ) (life : Lifetime A) → label < 2 ^ level → holds label life ≡ true → nat_lt life.from (2 ^ level) ≡ true
-holds_first level label life within there = grind (arith, nat_tests)
-
--- one that holds a label of the second half ends there
-holds_second : {A : Type 0} (level label : ℕ) (life : Lifetime A) → 2 ^ level ≤ label → holds label life ≡ true → nat_lt (2 ^ level) life.to ≡ true
-holds_second level label life after there = grind (arith, nat_tests)
-
-holds_seen : {A : Type 0} (level label : ℕ) (life : Lifetime A) → 2 ^ level ≤ label → holds (label - 2 ^ level) (seen_from (2 ^ level) life) ≡ holds label life
-holds_seen level label life after = seen_at (2 ^ level) label life.from life.to after where
-  seen_at : (half label from to : ℕ) → half ≤ label → (nat_le (from - half) (label - half) && nat_lt (label - half) (to - half)) ≡ (nat_le from label && nat_lt label to)
-  seen_at half label from to after = grind (arith, nat_tests)
-
-module _ {A : Type 0} {before : A → A → Bool} (order : IsOrder before) where
-  -- the items at a label of the first half
-  pub first-in_order : (level label : ℕ) (lives : List (Lifetime A)) → label < 2 ^ level → in_order before (wholes (suc level) lives ++ items_at label (in_first level lives)) ≡ in_order before (items_at label lives)
-  first-in_order level label lives within =
-      ap (λ parts. in_order before (wholes (suc level) lives ++ items_at label parts)) (sym (map-same (in_first level lives)))
-      ∙ split-in_order order (λ (life : Lifetime A). life.item) (is_whole (suc level)) (λ life. nat_lt life.from (2 ^ level)) (holds label) (λ life. life) (holds label)
-      (λ life. refl) (λ life. refl)
-      (λ life whole. whole_holds (suc level) label life (omega (arith, double level)) whole)
-      (λ life broken there. holds_first level label life within there)
-      lives
-
-  -- the items at a label of the second half
-  pub second-in_order : (level label : ℕ) (lives : List (Lifetime A)) → 2 ^ level ≤ label → label < 2 ^ suc level
-      → in_order before (wholes (suc level) lives ++ items_at (label - 2 ^ level) (in_second level lives)) ≡ in_order before (items_at label lives)
-  second-in_order level label lives after within =
-      split-in_order order (λ (life : Lifetime A). life.item) (is_whole (suc level)) (λ life. nat_lt (2 ^ level) life.to) (holds label) (seen_from (2 ^ level)) (holds (label - 2 ^ level))
-      (λ life. refl) (λ life. holds_seen level label life after)
-      (λ life whole. whole_holds (suc level) label life within whole)
-      (λ life broken there. holds_second level label life after there)
-      lives

@@ -1,32 +1,22 @@
 -- What is taken of each element of a list, where something is.
-use Rattle.std.proofs.Common.{◌≡◌, Bool, true, false, cond, List, [], ◌∷◌, Option, Some, None, refl, sym, ap, ◌∙◌}
+use Rattle.std.proofs.Common.{◌≡◌, ◌≤◌, ◌⊎◌, Bool, true, false, cond, List, [], ◌∷◌, ◌++◌, length, Option, Some, None, inl, inr, refl, sym, ap, ◌∙◌, arith}
 use Rattle.std.specs.Prelude.{map}
 use Rattle.std.specs.List.{filter}
 use Rattle.lifetime_segments.specs.Ordered.{IsOrder, put_in, in_order}
-use Rattle.lifetime_segments.specs.OrderedLaws.{put_in-swap}
-
-abbrev pub with : {Y : Type 0} → Option Y → List Y → List Y
-with (Some y) ys = y ∷ ys
-with None ys = ys
-
-abbrev pub taken : {X Y : Type 0} → (X → Option Y) → List X → List Y
-taken f [] = []
-taken f (x ∷ xs) = with (f x) (taken f xs)
+use Rattle.lifetime_segments.specs.OrderedLaws.{in_order-middle, put_in-swap}
+use Rattle.lifetime_segments.specs.Tries.{with, taken}
 
 abbrev pub after : {Y Z : Type 0} → Option Y → (Y → Option Z) → Option Z
 after (Some y) f = f y
 after None f = None
 
 -- what is taken of what was taken
-pub taken-taken : {X Y Z : Type 0} (first : X → Option Y) (second : Y → Option Z) (both : X → Option Z) → ((x : X) → both x ≡ after (first x) second) → (xs : List X) → taken both xs ≡ taken second (taken first xs)
-taken-taken first second both same [] = refl
-taken-taken first second both same (x ∷ xs) =
-    ap (λ o. with o (taken both xs)) (same x)
-    ∙ ap (with (after (first x) second)) (taken-taken first second both same xs)
-    ∙ (elim (first x) as (λ o. with (after o second) (taken second (taken first xs)) ≡ taken second (with o (taken first xs))) [
-      | Some y ↦ refl
-      | None ↦ refl
-    ])
+pub taken-taken : {X Y Z : Type 0} (first : X → Option Y) (second : Y → Option Z) (xs : List X) → taken second (taken first xs) ≡ taken (λ x. after (first x) second) xs
+taken-taken first second [] = refl
+taken-taken first second (x ∷ xs) = elim (first x) as (λ o. taken second (with o (taken first xs)) ≡ with (after o second) (taken (λ x. after (first x) second) xs)) [
+  | Some y ↦ ap (with (second y)) (taken-taken first second xs)
+  | None ↦ taken-taken first second xs
+]
 
 pub mapped : {X Y : Type 0} (test : X → Bool) (f : X → Y) (xs : List X) → map f (filter test xs) ≡ taken (λ x. cond (test x) (Some (f x)) None) xs
 mapped test f [] = refl
@@ -35,18 +25,45 @@ mapped test f (x ∷ xs) = elim (test x) as (λ b. map f (cond b (x ∷ filter t
   | false ↦ mapped test f xs
 ]
 
--- where nothing is taken in three ways, nothing is in a fourth
-pub taken-none : {X A B C D : Type 0} (f : X → Option A) (g : X → Option B) (h : X → Option C) (all : X → Option D)
-    → ((x : X) → f x ≡ None → g x ≡ None → h x ≡ None → all x ≡ None) → (xs : List X) → taken f xs ≡ [] → taken g xs ≡ [] → taken h xs ≡ [] → taken all xs ≡ []
-taken-none f g h all none [] no_f no_g no_h = refl
-taken-none f g h all none (x ∷ xs) no_f no_g no_h =
-    let of_f = parted (f x) (taken f xs) no_f in
-    let of_g = parted (g x) (taken g xs) no_g in
-    let of_h = parted (h x) (taken h xs) no_h in
-    ap (λ o. with o (taken all xs)) (none x of_f.0 of_g.0 of_h.0) ∙ taken-none f g h all none xs of_f.1 of_g.1 of_h.1 where
-      parted : {Y : Type 0} (o : Option Y) (ys : List Y) → with o ys ≡ [] → (o ≡ None) × (ys ≡ [])
-      parted (Some y) ys nothing = absurd (cc)
-      parted None ys nothing = (refl, nothing)
+pub taken-some : {X : Type 0} (xs : List X) → taken (λ x. Some x) xs ≡ xs
+taken-some [] = refl
+taken-some (x ∷ xs) = ap (λ ys. x ∷ ys) (taken-some xs)
+
+pub length-taken : {X Y : Type 0} (f : X → Option Y) (xs : List X) → length (taken f xs) ≤ length xs
+length-taken f [] = omega arith
+length-taken f (x ∷ xs) =
+    let fewer = length-taken f xs in
+    elim (f x) as (λ o. length (with o (taken f xs)) ≤ length (x ∷ xs)) [
+      | Some y ↦ omega arith
+      | None ↦ omega arith
+    ]
+
+-- no element is nothing more
+pub none-with : {Y : Type 0} (o : Option Y) (ys : List Y) → with o ys ≡ [] → o ≡ None
+none-with (Some y) ys nothing = absurd (cc)
+none-with None ys nothing = refl
+
+module _ {X Y : Type 0} {before : Y → Y → Bool} (order : IsOrder before) where
+  -- what is taken in one way of some elements, and in another way of the others, is what is taken of all
+  pub taken-either : (f g all : X → Option Y) → ((x : X) → ((g x ≡ None) × (f x ≡ all x)) ⊎ ((f x ≡ None) × (g x ≡ all x))) → (xs : List X) → in_order before (taken f xs ++ taken g xs) ≡ in_order before (taken all xs)
+  taken-either f g all each [] = refl
+  taken-either f g all each (x ∷ xs) = joined (each x) (taken-either f g all each xs) where
+    joined : ((g x ≡ None) × (f x ≡ all x)) ⊎ ((f x ≡ None) × (g x ≡ all x)) → in_order before (taken f xs ++ taken g xs) ≡ in_order before (taken all xs)
+        → in_order before (with (f x) (taken f xs) ++ with (g x) (taken g xs)) ≡ in_order before (with (all x) (taken all xs))
+    joined (inl here) rest =
+        ap (λ o. in_order before (with (f x) (taken f xs) ++ with o (taken g xs))) here.0
+        ∙ ap (λ o. in_order before (with o (taken f xs) ++ taken g xs)) here.1
+        ∙ (elim (all x) as (λ o. in_order before (with o (taken f xs) ++ taken g xs) ≡ in_order before (with o (taken all xs))) [
+          | Some y ↦ ap (put_in before y) rest
+          | None ↦ rest
+        ])
+    joined (inr here) rest =
+        ap (λ o. in_order before (with o (taken f xs) ++ with (g x) (taken g xs))) here.0
+        ∙ ap (λ o. in_order before (taken f xs ++ with o (taken g xs))) here.1
+        ∙ (elim (all x) as (λ o. in_order before (taken f xs ++ with o (taken g xs)) ≡ in_order before (with o (taken all xs))) [
+          | Some y ↦ in_order-middle order y (taken f xs) (taken g xs) ∙ ap (put_in before y) rest
+          | None ↦ rest
+        ])
 
 module _ {X Y : Type 0} (earlier : X → X → Bool) {before : Y → Y → Bool} (order : IsOrder before) (f : X → Option Y) where
   with-alike : (o : Option Y) (ys zs : List Y) → in_order before ys ≡ in_order before zs → in_order before (with o ys) ≡ in_order before (with o zs)

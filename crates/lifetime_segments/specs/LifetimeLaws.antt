@@ -1,5 +1,5 @@
 -- Both orders of lifetimes are strict and total, and which items are there at a label does not depend on the order of the list.
-use Rattle.std.proofs.Common.{◌≡◌, ℕ, ◌<◌, ◌⊎◌, Bool, true, false, cond, List, [], ◌∷◌, inl, inr, refl, sym, ap, ◌∙◌, arith}
+use Rattle.std.proofs.Common.{◌≡◌, ℕ, ◌⊎◌, Bool, true, false, cond, List, [], ◌∷◌, inl, inr, refl, sym, ap, ◌∙◌, arith}
 use Rattle.std.specs.Prelude.{◌==◌, ◌&&◌, ◌||◌, not, nat_lt, map}
 use Rattle.std.specs.List.{filter}
 use Rattle.std.proofs.lemmas.Bool.Decides.{nat_tests}
@@ -9,59 +9,13 @@ use Rattle.lifetime_segments.specs.OrderedLaws.{put_in-swap}
 use Rattle.lifetime_segments.specs.Lifetimes.{lifetime, holds, items_at, stands_earlier, stands_by_item}
 
 -- a strict order whose ties are the same in some sense
-record IsOrderUpTo {X : Type 0} (before : X → X → Bool) (Same : X → X → Type 0) : Type 0 where
+pub record IsOrderUpTo {X : Type 0} (before : X → X → Bool) (Same : X → X → Type 0) : Type 0 where
   pub strict : (x : X) → before x x ≡ false
   pub chains : (x y z : X) → before x y ≡ true → before y z ≡ true → before x z ≡ true
   pub total : (x y : X) → before x y ≡ false → before y x ≡ false → Same x y
 
--- first by a number
-abbrev by : ℕ → ℕ → Bool → Bool
-by m n rest = nat_lt m n || ((m == n) && rest)
-
-by-less : (m n : ℕ) (rest : Bool) → m < n → by m n rest ≡ true
-by-less m n rest less = grind (arith, nat_tests)
-
-by-same : (n : ℕ) (rest : Bool) → by n n rest ≡ rest
-by-same n true = grind (arith, nat_tests)
-by-same n false = grind (arith, nat_tests)
-
-by-true : (m n : ℕ) (rest : Bool) → by m n rest ≡ true → (m < n) ⊎ ((m ≡ n) × (rest ≡ true))
-by-true m n true up = grind (arith, nat_tests)
-by-true m n false up = grind (arith, nat_tests)
-
-by-false : (m n : ℕ) (rest : Bool) → by m n rest ≡ false → (n < m) ⊎ ((m ≡ n) × (rest ≡ false))
-by-false m n true down = grind (arith, nat_tests)
-by-false m n false down = grind (arith, nat_tests)
-
--- by a number first, and by another order where it is the same
-order_by : {X : Type 0} (f : X → ℕ) (rest : X → X → Bool) (Same : X → X → Type 0) → IsOrderUpTo rest Same
-    → IsOrderUpTo (λ x y. by (f x) (f y) (rest x y)) (λ x y. (f x ≡ f y) × Same x y)
-order_by {X} f rest Same order = record {
-  strict = λ x. by-same (f x) (rest x x) ∙ order.strict x;
-  chains = λ x y z first second. elim (by-true (f x) (f y) (rest x y) first) [
-    | inl less ↦ elim (by-true (f y) (f z) (rest y z) second) [
-      | inl later ↦ by-less (f x) (f z) (rest x z) (omega arith)
-      | inr level ↦ by-less (f x) (f z) (rest x z) (let same : f y ≡ f z = level.0 in omega arith)
-    ]
-    | inr tied ↦ elim (by-true (f y) (f z) (rest y z) second) [
-      | inl later ↦ by-less (f x) (f z) (rest x z) (let same : f x ≡ f y = tied.0 in omega arith)
-      | inr level ↦ ap (λ n. by n (f z) (rest x z)) (tied.0 ∙ level.0) ∙ by-same (f z) (rest x z) ∙ order.chains x y z tied.1 level.1
-    ]
-  ];
-  total = λ x y first second. elim (by-false (f x) (f y) (rest x y) first) [
-    | inl over ↦ elim (by-false (f y) (f x) (rest y x) second) [
-      | inl under ↦ absurd (omega arith)
-      | inr level ↦ absurd (let same : f y ≡ f x = level.0 in omega arith)
-    ]
-    | inr tied ↦ elim (by-false (f y) (f x) (rest y x) second) [
-      | inl under ↦ absurd (let same : f x ≡ f y = tied.0 in omega arith)
-      | inr level ↦ (tied.0, order.total x y tied.1 level.1)
-    ]
-  ];
-}
-
 -- by an order of something first, and by another one where that has a tie
-abbrev tied_by : {Y : Type 0} → (Y → Y → Bool) → Y → Y → Bool → Bool
+abbrev pub tied_by : {Y : Type 0} → (Y → Y → Bool) → Y → Y → Bool → Bool
 tied_by before a b rest = before a b || (not (before b a) && rest)
 
 module _ {Y : Type 0} {before : Y → Y → Bool} (order : IsOrder before) where
@@ -89,7 +43,7 @@ module _ {Y : Type 0} {before : Y → Y → Bool} (order : IsOrder before) where
     ] refl
   ] refl up
 
-  tied_order : {X : Type 0} (f : X → Y) (rest : X → X → Bool) (Same : X → X → Type 0) → IsOrderUpTo rest Same
+  pub tied_order : {X : Type 0} (f : X → Y) (rest : X → X → Bool) (Same : X → X → Type 0) → IsOrderUpTo rest Same
       → IsOrderUpTo (λ x y. tied_by before (f x) (f y) (rest x y)) (λ x y. (f x ≡ f y) × Same x y)
   tied_order {X} f rest Same ties = record {
     strict = λ x. tied_by-same (f x) (rest x x) ∙ ties.strict x;
@@ -115,58 +69,64 @@ module _ {Y : Type 0} {before : Y → Y → Bool} (order : IsOrder before) where
     ];
   }
 
-module _ {A : Type 0} {before : A → A → Bool} (order : IsOrder before) where
-  by_item : IsOrderUpTo (λ (x : Lifetime A) (y : Lifetime A). before x.item y.item) (λ x y. x.item ≡ y.item)
-  by_item = record {
-    strict = λ x. order.strict x.item;
-    chains = λ x y z. order.chains x.item y.item z.item;
-    total = λ x y. order.total x.item y.item;
-  }
+-- the same order in other words
+pub order_as : {X : Type 0} (before other : X → X → Bool) (Same : X → X → Type 0) → ((x y : X) → other x y ≡ before x y) → IsOrderUpTo before Same → IsOrderUpTo other Same
+order_as before other Same same order = record {
+  strict = λ x. same x x ∙ order.strict x;
+  chains = λ x y z first second. same x z ∙ order.chains x y z (sym (same x y) ∙ first) (sym (same y z) ∙ second);
+  total = λ x y first second. order.total x y (sym (same x y) ∙ first) (sym (same y x) ∙ second);
+}
 
+number_order : IsOrder nat_lt
+number_order = record { strict = strict; chains = chains; total = total } where
+  strict : (n : ℕ) → nat_lt n n ≡ false
+  strict n = grind (arith, nat_tests)
+
+  chains : (m n o : ℕ) → nat_lt m n ≡ true → nat_lt n o ≡ true → nat_lt m o ≡ true
+  chains m n o first second = grind (arith, nat_tests)
+
+  total : (m n : ℕ) → nat_lt m n ≡ false → nat_lt n m ≡ false → m ≡ n
+  total m n first second = grind (arith, nat_tests)
+
+-- by a number first, and by another order where it is the same
+order_by : {X : Type 0} (f : X → ℕ) (rest : X → X → Bool) (Same : X → X → Type 0) → IsOrderUpTo rest Same
+    → IsOrderUpTo (λ x y. nat_lt (f x) (f y) || ((f x == f y) && rest x y)) (λ x y. (f x ≡ f y) × Same x y)
+order_by f rest Same order = order_as (λ x y. tied_by nat_lt (f x) (f y) (rest x y)) _ _ (λ x y. tied (f x) (f y) (rest x y)) (tied_order number_order f rest Same order) where
+  tied : (m n : ℕ) (b : Bool) → (nat_lt m n || ((m == n) && b)) ≡ tied_by nat_lt m n b
+  tied m n true = grind (arith, nat_tests)
+  tied m n false = grind (arith, nat_tests)
+
+same_lifetime : {A : Type 0} (x y : Lifetime A) → x.from ≡ y.from → x.to ≡ y.to → x.item ≡ y.item → x ≡ y
+same_lifetime x y from to item =
+    let parts : lifetime x.from x.to x.item ≡ lifetime y.from y.to y.item = ap (λ n. lifetime n x.to x.item) from ∙ ap (λ n. lifetime y.from n x.item) to ∙ ap (lifetime y.from y.to) item in
+    parts
+
+module _ {A : Type 0} {before : A → A → Bool} (order : IsOrder before) where
   -- lifetimes have a strict total order
   pub earlier_order : IsOrder (stands_earlier before)
   earlier_order =
+      let by_item : IsOrderUpTo (λ (x : Lifetime A) (y : Lifetime A). before x.item y.item) (λ x y. x.item ≡ y.item) =
+      record { strict = λ x. order.strict x.item; chains = λ x y z. order.chains x.item y.item z.item; total = λ x y. order.total x.item y.item } in
       let by_to = order_by (λ (x : Lifetime A). x.to) (λ x y. before x.item y.item) (λ x y. x.item ≡ y.item) by_item in
-      let by_from = order_by (λ (x : Lifetime A). x.from) (λ x y. by x.to y.to (before x.item y.item)) (λ x y. (x.to ≡ y.to) × (x.item ≡ y.item)) by_to in
+      let by_from = order_by (λ (x : Lifetime A). x.from) (λ x y. nat_lt x.to y.to || ((x.to == y.to) && before x.item y.item)) (λ x y. (x.to ≡ y.to) × (x.item ≡ y.item)) by_to in
       record {
         strict = by_from.strict;
         chains = by_from.chains;
-        total = λ x y first second. same_lifetime x y (by_from.total x y first second);
-      } where
-        same_lifetime : (x y : Lifetime A) → (x.from ≡ y.from) × ((x.to ≡ y.to) × (x.item ≡ y.item)) → x ≡ y
-        same_lifetime x y same =
-            let parts : lifetime x.from x.to x.item ≡ lifetime y.from y.to y.item = ap (λ n. lifetime n x.to x.item) same.0 ∙ ap (λ n. lifetime y.from n x.item) same.1.0 ∙ ap (lifetime y.from y.to) same.1.1 in
-            parts
+        total = λ x y first second. let same = by_from.total x y first second in same_lifetime x y same.0 same.1.0 same.1.1;
+      }
 
   -- by their items they have another one
   pub by_item_order : IsOrder (stands_by_item before)
   by_item_order =
+      let by_to : IsOrderUpTo (λ (x : Lifetime A) (y : Lifetime A). nat_lt x.to y.to) (λ x y. x.to ≡ y.to) =
+      record { strict = λ x. number_order.strict x.to; chains = λ x y z. number_order.chains x.to y.to z.to; total = λ x y. number_order.total x.to y.to } in
       let by_from = order_by (λ (x : Lifetime A). x.from) (λ x y. nat_lt x.to y.to) (λ x y. x.to ≡ y.to) by_to in
-      let by_item_first = tied_order order (λ (x : Lifetime A). x.item) (λ x y. by x.from y.from (nat_lt x.to y.to)) (λ x y. (x.from ≡ y.from) × (x.to ≡ y.to)) by_from in
+      let by_item_first = tied_order order (λ (x : Lifetime A). x.item) (λ x y. nat_lt x.from y.from || ((x.from == y.from) && nat_lt x.to y.to)) (λ x y. (x.from ≡ y.from) × (x.to ≡ y.to)) by_from in
       record {
         strict = by_item_first.strict;
         chains = by_item_first.chains;
-        total = λ x y first second. same_lifetime x y (by_item_first.total x y first second);
-      } where
-        by_to : IsOrderUpTo (λ (x : Lifetime A) (y : Lifetime A). nat_lt x.to y.to) (λ x y. x.to ≡ y.to)
-        by_to = record {
-          strict = λ x. less_itself x.to;
-          chains = λ x y z. less_chains x.to y.to z.to;
-          total = λ x y. less_neither x.to y.to;
-        } where
-          less_itself : (n : ℕ) → nat_lt n n ≡ false
-          less_itself n = grind (arith, nat_tests)
-
-          less_chains : (m n o : ℕ) → nat_lt m n ≡ true → nat_lt n o ≡ true → nat_lt m o ≡ true
-          less_chains m n o first second = grind (arith, nat_tests)
-
-          less_neither : (m n : ℕ) → nat_lt m n ≡ false → nat_lt n m ≡ false → m ≡ n
-          less_neither m n first second = grind (arith, nat_tests)
-
-        same_lifetime : (x y : Lifetime A) → (x.item ≡ y.item) × ((x.from ≡ y.from) × (x.to ≡ y.to)) → x ≡ y
-        same_lifetime x y same =
-            let parts : lifetime x.from x.to x.item ≡ lifetime y.from y.to y.item = ap (λ n. lifetime n x.to x.item) same.1.0 ∙ ap (λ n. lifetime y.from n x.item) same.1.1 ∙ ap (lifetime y.from y.to) same.0 in
-            parts
+        total = λ x y first second. let same = by_item_first.total x y first second in same_lifetime x y same.1.0 same.1.1 same.0;
+      }
 
   -- an element that is put in, or not
   abbrev also : Bool → A → List A → List A

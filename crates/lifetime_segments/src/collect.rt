@@ -1,7 +1,7 @@
 //! The items on the way to a label.
-ghost use Rattle.std.specs.Prelude.{◌≡◌, ◌<◌, ◌≤◌, ◌^◌, ◌++◌, suc, [], OnOk, IfOk};
+ghost use Rattle.std.specs.Prelude.{◌≡◌, ◌<◌, ◌≤◌, ◌^◌, ◌++◌, [], OnOk, IfOk};
 ghost use Rattle.lifetime_segments.specs.Lifetimes.{items_at};
-ghost use Rattle.lifetime_segments.specs.Tries.{CollectsAt, NodeCollectsAt};
+ghost use Rattle.lifetime_segments.specs.Tries.{Collects, IsOf, IsOfNode, items_below};
 
 use crate::life_list::LifeList;
 use crate::lifetime::labels;
@@ -21,7 +21,7 @@ pub(crate) fn collected<O: Order>(
 ) -> Result<Vec<O::Item>, NoMemory>
     requires level { level ≤ 40 }
     requires within { label < 2 ^ level }
-    ensures { IfOk result (λ items. CollectsAt O.stands_before level label root.now [] items.items) }
+    ensures { IfOk result (λ items. Collects O.stands_before (items_at label) (IsOf O.stands_before level root.now) [] items.items) }
 {
     let mut items = Vec::new(alloc);
     collect::<O>(root, level, label, &mut items)?;
@@ -38,7 +38,7 @@ fn collect<O: Order>(
 ) -> Result<(), NoMemory>
     requires level { level ≤ 40 }
     requires within { label < 2 ^ level }
-    ensures { OnOk result (CollectsAt O.stands_before level label trie.now items.old.items items.new.items) }
+    ensures { OnOk result (Collects O.stands_before (items_at label) (IsOf O.stands_before level trie.now) items.old.items items.new.items) }
 {
     let node = match trie {
         Trie::Few(few) => return append_few(few, label, items),
@@ -48,7 +48,7 @@ fn collect<O: Order>(
     if level == 0 {
         return Ok(());
     }
-    collect_half::<O>(node, level - 1, label, items)
+    collect_half::<O>(node, level, label, items)
 }
 
 /// Appends the items in the spans below a node and above a label.
@@ -59,15 +59,16 @@ fn collect_half<O: Order>(
     label: u64,
     items: &mut Vec<O::Item>,
 ) -> Result<(), NoMemory>
-    requires level { level < 40 }
-    requires within { label < 2 ^ suc level }
-    ensures { OnOk result (NodeCollectsAt O.stands_before level label node.now items.old.items items.new.items) }
+    requires level { level ≤ 40 }
+    requires deep { 0 < level }
+    requires within { label < 2 ^ level }
+    ensures { OnOk result (Collects O.stands_before (items_below level label) (IsOfNode O.stands_before level node.now) items.old.items items.new.items) }
 {
-    let half = labels(level);
+    let half = labels(level - 1);
     if label < half {
-        collect::<O>(&node.left, level, label, items)
+        collect::<O>(&node.left, level - 1, label, items)
     } else {
-        collect::<O>(&node.right, level, label - half, items)
+        collect::<O>(&node.right, level - 1, label - half, items)
     }
 }
 

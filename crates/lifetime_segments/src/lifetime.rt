@@ -1,7 +1,7 @@
 //! A lifetime: what of it lies in a span, and what in its halves.
-ghost use Rattle.std.specs.Prelude.{◌≡◌, ◌≤◌, ◌^◌, nat_lt};
+ghost use Rattle.std.specs.Prelude.{◌≡◌, ◌-◌, ◌<◌, ◌≤◌, ◌^◌, false, IfSome};
 ghost use Rattle.lifetime_segments.specs.Lifetimes.{holds};
-ghost use Rattle.lifetime_segments.specs.Tries.{clipped, ending, is_whole, seen_from};
+ghost use Rattle.lifetime_segments.specs.Tries.{Lies, ending, first_part, is_whole, second_part, seen_from};
 
 use monoid_laws::{Count, Measured};
 
@@ -44,35 +44,11 @@ impl<T: Copy> Lifetime<T> {
         self.from == 0 && labels(level) <= self.to
     }
 
-    /// Whether it begins in a first half of this level.
-    pub(crate) fn begins_in_first(&self, level: u32) -> bool
-        requires { level ≤ 40 }
-        ensures { result ≡ nat_lt self.now.from (2 ^ level) }
-    {
-        self.from < labels(level)
-    }
-
-    /// Whether it ends in a second half of this level.
-    pub(crate) fn ends_in_second(&self, level: u32) -> bool
-        requires { level ≤ 40 }
-        ensures { result ≡ nat_lt (2 ^ level) self.now.to }
-    {
-        labels(level) < self.to
-    }
-
     /// The lifetime that ends at another label.
     pub(crate) fn ending(&self, to: u64) -> Lifetime<T>
         ensures { result ≡ ending to self.now }
     {
         Lifetime { to, ..*self }
-    }
-
-    /// What of it lies in a span of this level.
-    pub(crate) fn clipped(&self, level: u32) -> Lifetime<T>
-        requires { level ≤ 40 }
-        ensures { result ≡ clipped level self.now }
-    {
-        self.ending(self.to.min(labels(level)))
     }
 
     /// Whether it holds a label.
@@ -82,16 +58,47 @@ impl<T: Copy> Lifetime<T> {
         self.from <= label && label < self.to
     }
 
-    /// What of it is in a second half of this level, seen from where that half begins.
-    pub(crate) fn in_second(&self, level: u32) -> Lifetime<T>
-        requires { level ≤ 40 }
-        ensures { result ≡ seen_from (2 ^ level) self.now }
+    /// The lifetime seen from a label.
+    pub(crate) fn seen_from(&self, label: u64) -> Lifetime<T>
+        ensures { result ≡ seen_from label self.now }
     {
-        let half = labels(level);
         Lifetime {
-            from: self.from.saturating_sub(half),
-            to: self.to.saturating_sub(half),
+            from: self.from.saturating_sub(label),
+            to: self.to.saturating_sub(label),
             item: self.item,
+        }
+    }
+
+    /// What of it lies in the first half of a span that it does not hold whole.
+    pub(crate) fn in_first(&self, level: u32) -> Option<Lifetime<T>>
+        requires level { level ≤ 40 }
+        requires lies { Lies level self.now }
+        requires broken { is_whole level self.now ≡ false }
+        ensures part { result ≡ first_part level self.now }
+        ensures lies { IfSome result (Lies (level - 1)) }
+        ensures deep { 0 < level }
+    {
+        let half = labels(level - 1);
+        if self.from < half {
+            Some(self.ending(self.to.min(half)))
+        } else {
+            None
+        }
+    }
+
+    /// What of it lies in the second half, seen from where that half begins.
+    pub(crate) fn in_second(&self, level: u32) -> Option<Lifetime<T>>
+        requires level { level ≤ 40 }
+        requires lies { Lies level self.now }
+        requires broken { is_whole level self.now ≡ false }
+        ensures part { result ≡ second_part level self.now }
+        ensures lies { IfSome result (Lies (level - 1)) }
+    {
+        let half = labels(level - 1);
+        if half < self.to {
+            Some(self.seen_from(half))
+        } else {
+            None
         }
     }
 }

@@ -1,9 +1,9 @@
 //! The way to a label, and the answers on it.
-ghost use Rattle.std.specs.Prelude.{◌≡◌, ◌<◌, ◌≤◌, ◌^◌, suc, length};
+ghost use Rattle.std.specs.Prelude.{◌≡◌, ◌<◌, ◌≤◌, ◌^◌, None, length};
 ghost use Rattle.lifetime_segments.specs.Lawful.{most_items, AnswerTogether, IsLawful};
 ghost use Rattle.lifetime_segments.specs.Lifetimes.{items_at, stands_by_item};
 ghost use Rattle.lifetime_segments.specs.Ordered.{AreInOrder, in_order};
-ghost use Rattle.lifetime_segments.specs.Tries.{Has, NodeHas, AnswersAt, NodeAnswersAt, NodeAnswersWithOwn};
+ghost use Rattle.lifetime_segments.specs.Tries.{Answers, Has, IsOf, IsOfNode, items_below};
 
 use crate::decomposable::{Decomposable, RangeSearch};
 use crate::life_list::{LifeList, place_from};
@@ -21,8 +21,8 @@ pub(crate) fn ask<D: RangeSearch>(
 ) -> D::Part
     requires level { level ≤ 40 }
     requires within { label < 2 ^ level }
-    requires has { Has D.stands_before level trie.now }
-    ensures { AnswersAt D.stands_before D.answer level label query trie.now result }
+    requires has { Has (IsOf D.stands_before level trie.now) None }
+    ensures { Answers D.stands_before D.answer query (items_at label) (IsOf D.stands_before level trie.now) result }
 {
     match trie {
         Trie::Few(few) => ask_few::<D>(few, label, query),
@@ -43,16 +43,16 @@ fn ask_node<D: RangeSearch>(
 ) -> D::Part
     requires level { level ≤ 40 }
     requires within { label < 2 ^ level }
-    requires has { NodeHas D.stands_before level node.now }
-    ensures { NodeAnswersWithOwn D.stands_before D.answer level label query node.now result }
+    requires has { Has (IsOfNode D.stands_before level node.now) None }
+    ensures { Answers D.stands_before D.answer query (items_at label) (IsOfNode D.stands_before level node.now) result }
 {
     if level == 0 {
         return D::ask(&node.items, query);
     }
     if node.items.len() == 0 {
-        return ask_half::<D>(node, level - 1, label, query);
+        return ask_half::<D>(node, level, label, query);
     }
-    ask_with_own::<D>(node, level - 1, label, query)
+    ask_with_own::<D>(node, level, label, query)
 }
 
 /// The same where the node has halves and items of its own.
@@ -64,10 +64,11 @@ fn ask_with_own<D: RangeSearch>(
     label: u64,
     query: D::Query,
 ) -> D::Part
-    requires level { level < 40 }
-    requires within { label < 2 ^ suc level }
-    requires has { NodeHas D.stands_before (suc level) node.now }
-    ensures { NodeAnswersWithOwn D.stands_before D.answer (suc level) label query node.now result }
+    requires level { level ≤ 40 }
+    requires deep { 0 < level }
+    requires within { label < 2 ^ level }
+    requires has { Has (IsOfNode D.stands_before level node.now) None }
+    ensures { Answers D.stands_before D.answer query (items_at label) (IsOfNode D.stands_before level node.now) result }
 {
     let below = ask_half::<D>(node, level, label, query);
     with_own::<D>(&node.items, below, query)
@@ -90,16 +91,17 @@ fn ask_half<D: RangeSearch>(
     label: u64,
     query: D::Query,
 ) -> D::Part
-    requires level { level < 40 }
-    requires within { label < 2 ^ suc level }
-    requires has { NodeHas D.stands_before (suc level) node.now }
-    ensures { NodeAnswersAt D.stands_before D.answer level label query node.now result }
+    requires level { level ≤ 40 }
+    requires deep { 0 < level }
+    requires within { label < 2 ^ level }
+    requires has { Has (IsOfNode D.stands_before level node.now) None }
+    ensures { Answers D.stands_before D.answer query (items_below level label) (IsOfNode D.stands_before level node.now) result }
 {
-    let half = labels(level);
+    let half = labels(level - 1);
     if label < half {
-        ask::<D>(&node.left, level, label, query)
+        ask::<D>(&node.left, level - 1, label, query)
     } else {
-        ask::<D>(&node.right, level, label - half, query)
+        ask::<D>(&node.right, level - 1, label - half, query)
     }
 }
 

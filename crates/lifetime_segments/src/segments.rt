@@ -4,7 +4,7 @@ ghost use Rattle.std.specs.List.{AllByRecursion};
 ghost use Rattle.lifetime_segments.specs.Lawful.{most_items};
 ghost use Rattle.lifetime_segments.specs.Lifetimes.{label_end, lifetime, IsInRange, items_at, stands_earlier};
 ghost use Rattle.lifetime_segments.specs.Ordered.{AreInOrder, put_in, in_order, is_in, without, position_in};
-ghost use Rattle.lifetime_segments.specs.Tries.{AreHeld, ending};
+ghost use Rattle.lifetime_segments.specs.Tries.{AreHeld, Lies, ending};
 
 use crate::adding::add;
 use crate::collect::collected;
@@ -122,7 +122,7 @@ fn add_held<O: Order>(
     root: &mut Trie<O::Item>,
     life: Lifetime<O::Item>,
 ) -> Result<(), NoMemory>
-    requires range { IsInRange life }
+    requires lies { Lies 40 life }
     requires room { length held.old < most_items }
     requires held { AreHeld O.stands_before held.old root.old }
     ensures held { AreHeld O.stands_before held.new root.new }
@@ -163,7 +163,7 @@ fn move_held<O: Order>(
     life: Lifetime<O::Item>,
     next: u64,
 ) -> Result<(), NoMemory>
-    requires range { IsInRange (ending next life) }
+    requires moved { Lies 40 (ending next life) }
     requires room { length held.old < most_items }
     requires place { position_in (stands_earlier O.stands_before) life held.old ≡ Some place }
     requires held { AreHeld O.stands_before held.old root.old }
@@ -188,7 +188,7 @@ fn move_away<O: Order>(
     life: Lifetime<O::Item>,
     next: u64,
 ) -> Result<(), NoMemory>
-    requires range { IsInRange (ending next life) }
+    requires moved { Lies 40 (ending next life) }
     requires room { length held.old < most_items }
     requires there { is_in (stands_earlier O.stands_before) life held.old ≡ true }
     requires held { AreHeld O.stands_before held.old root.old }

@@ -1,6 +1,6 @@
 //! Taking a lifetime out of its spans.
-ghost use Rattle.std.specs.Prelude.{◌≡◌, ◌<◌, ◌≤◌, ◌^◌, false, suc};
-ghost use Rattle.lifetime_segments.specs.Tries.{HasOne, NodeHasOne, FirstHasOne, SecondHasOne, Takes, NodeTakes, TakesFirst, TakesSecond, is_whole};
+ghost use Rattle.std.specs.Prelude.{◌≤◌, Some, None, IfSome};
+ghost use Rattle.lifetime_segments.specs.Tries.{Changes, Holds, IsOf, IsOfNode, Lies};
 
 use crate::life_list::take_life;
 use crate::lifetime::Lifetime;
@@ -11,13 +11,12 @@ use crate::trie::{Node, Trie};
 #[cycle(take)]
 pub(crate) fn take<O: Order>(trie: &mut Trie<O::Item>, level: u32, life: Lifetime<O::Item>)
     requires level { level ≤ 40 }
-    requires begins { life.from < 2 ^ level }
-    requires rises { life.from < life.to }
-    requires has { HasOne O.stands_before level life trie.old }
-    ensures { Takes O.stands_before level life trie.old trie.new }
+    requires lies { Lies level life }
+    requires holds { Holds (IsOf O.stands_before level trie.old) (Some life) }
+    ensures { Changes (Some life) None (IsOf O.stands_before level trie.old) (IsOf O.stands_before level trie.new) }
 {
     match trie {
-        Trie::Few(few) => take_life::<O>(few, life.clipped(level)),
+        Trie::Few(few) => take_life::<O>(few, life),
         Trie::Full(node) => {
             take_from_node::<O>(node, level, life);
             if node.is_bare() {
@@ -35,42 +34,33 @@ pub(crate) fn take_from_node<O: Order>(
     life: Lifetime<O::Item>,
 )
     requires level { level ≤ 40 }
-    requires begins { life.from < 2 ^ level }
-    requires rises { life.from < life.to }
-    requires has { NodeHasOne O.stands_before level life node.old }
-    ensures { NodeTakes O.stands_before level life node.old node.new }
+    requires lies { Lies level life }
+    requires holds { Holds (IsOfNode O.stands_before level node.old) (Some life) }
+    ensures { Changes (Some life) None (IsOfNode O.stands_before level node.old) (IsOfNode O.stands_before level node.new) }
 {
     if life.is_whole(level) {
         take_out::<O>(&mut node.items, life.item);
-    } else {
-        take_first::<O>(&mut node.left, level - 1, life);
-        take_second::<O>(&mut node.right, level - 1, life);
+        return;
     }
+    let first = life.in_first(level);
+    take_part::<O>(&mut node.left, level - 1, first);
+    take_part::<O>(&mut node.right, level - 1, life.in_second(level));
 }
 
+/// Takes out what of a lifetime lies in a half, if anything does.
 #[cycle(take)]
-pub(crate) fn take_first<O: Order>(left: &mut Trie<O::Item>, level: u32, life: Lifetime<O::Item>)
-    requires level { level < 40 }
-    requires rises { life.from < life.to }
-    requires broken { is_whole (suc level) life ≡ false }
-    requires has { FirstHasOne O.stands_before level life left.old }
-    ensures { TakesFirst O.stands_before level life left.old left.new }
+pub(crate) fn take_part<O: Order>(
+    half: &mut Trie<O::Item>,
+    level: u32,
+    part: Option<Lifetime<O::Item>>,
+)
+    requires level { level ≤ 40 }
+    requires lies { IfSome part (Lies level) }
+    requires holds { Holds (IsOf O.stands_before level half.old) part }
+    ensures { Changes part None (IsOf O.stands_before level half.old) (IsOf O.stands_before level half.new) }
 {
-    if life.begins_in_first(level) {
-        take::<O>(left, level, life);
-    }
-}
-
-#[cycle(take)]
-pub(crate) fn take_second<O: Order>(right: &mut Trie<O::Item>, level: u32, life: Lifetime<O::Item>)
-    requires level { level < 40 }
-    requires begins { life.from < 2 ^ suc level }
-    requires rises { life.from < life.to }
-    requires broken { is_whole (suc level) life ≡ false }
-    requires has { SecondHasOne O.stands_before level life right.old }
-    ensures { TakesSecond O.stands_before level life right.old right.new }
-{
-    if life.ends_in_second(level) {
-        take::<O>(right, level, life.in_second(level));
+    match part {
+        Some(life) => take::<O>(half, level, life),
+        None => {}
     }
 }

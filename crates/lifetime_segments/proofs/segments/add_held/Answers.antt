@@ -4,8 +4,11 @@ use Rattle.lifetime_segments.specs.LifetimeLaws.{earlier_order}
 use Rattle.lifetime_segments.specs.Ordered.{AreInOrder, is_in}
 use Rattle.lifetime_segments.specs.OrderedLaws.{put_in-ordered, is_in-put_in}
 use Rattle.lifetime_segments.specs.Tries.{AreHeld}
-use Rattle.lifetime_segments.proofs.Held.{held_back, held_with, taken_back}
+use Rattle.lifetime_segments.proofs.Held.{held_back, held_has, held_with, taken_back}
 use Rattle.lifetime_segments.proofs.segments.add_held.Goals as goal
+
+pub add-requires-clause-has : goal.add-requires-clause-has
+add-requires-clause-has g c = held_has g.O.Order.stands_before c.args.held.now c.args.root.now c.requires.held
 
 pub take_out-requires-clause-ordered : goal.take_out-requires-clause-ordered
 take_out-requires-clause-ordered g c =
@@ -18,7 +21,7 @@ take_out-requires-clause-there g c =
 
 pub returns-in-Err-clause-held : goal.returns-in-Err-clause-held
 returns-in-Err-clause-held g c =
-    held_back g.met.O.Order.order c.args.life c.args.held.now c.put.new.items c.take_out.new.items c.args.root.now c.add.new.trie c.in_ok-put.ensures.ok c.take_out.ensures c.requires.held c.in-Err.ensures.err
+    held_back g.met.O.Order.order c.args.life c.args.held.now c.put.new.items c.take_out.new.items c.args.root.now c.add.new.trie c.in_ok-put.ensures.ok c.take_out.ensures c.requires.held c.in-Err.ensures.1
 
 pub returns-in-Err-clause-err : goal.returns-in-Err-clause-err
 returns-in-Err-clause-err g c = taken_back g.met.O.Order.order c.args.life c.args.held.now c.put.new.items c.take_out.new.items c.in_ok-put.ensures.ok c.take_out.ensures
@@ -26,4 +29,4 @@ returns-in-Err-clause-err g c = taken_back g.met.O.Order.order c.args.life c.arg
 pub returns-clause-held : goal.returns-clause-held
 returns-clause-held g c =
     subst (λ held. AreHeld g.O.Order.stands_before held c.add.new.trie) (sym c.in_ok-put.ensures.ok)
-    (held_with g.met.O.Order.order c.args.life c.args.held.now c.args.root.now c.add.new.trie c.requires.range c.requires.room c.requires.held c.in_default.ensures.ok)
+    (held_with g.met.O.Order.order c.args.life c.args.held.now c.args.root.now c.add.new.trie c.requires.room c.requires.held c.in_default.ensures.0)

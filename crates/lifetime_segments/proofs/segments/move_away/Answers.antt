@@ -1,19 +1,17 @@
-use Rattle.std.proofs.Common.{subst, sym, ap, ◌∙◌, arith}
-use Rattle.lifetime_segments.specs.Lifetimes.{IsInRange, stands_earlier}
+use Rattle.std.proofs.Common.{subst, sym, ap, ◌∙◌}
+use Rattle.lifetime_segments.specs.Lifetimes.{stands_earlier}
 use Rattle.lifetime_segments.specs.LifetimeLaws.{earlier_order}
 use Rattle.lifetime_segments.specs.Ordered.{AreInOrder, put_in, is_in, without}
 use Rattle.lifetime_segments.specs.OrderedLaws.{put_in-ordered, is_in-put_in}
-use Rattle.lifetime_segments.specs.Tries.{AreHeld}
-use Rattle.lifetime_segments.proofs.Held.{held_back, held_one, held_range, held_moved, still_in, taken_back}
+use Rattle.lifetime_segments.specs.Tries.{AreHeld, ending}
+use Rattle.lifetime_segments.proofs.Held.{held_back, held_one, held_lies, held_moved, still_in, taken_back}
 use Rattle.lifetime_segments.proofs.segments.move_away.Goals as goal
 
-pub move_end-requires-clause-rises : goal.move_end-requires-clause-rises
-move_end-requires-clause-rises g c =
-    let range : IsInRange c.args.life = held_range g.met.O.Order.order c.args.life c.args.held.now c.args.root.now c.requires.held c.requires.there in
-    omega arith
+pub move_end-requires-clause-lies : goal.move_end-requires-clause-lies
+move_end-requires-clause-lies g c = held_lies g.met.O.Order.order c.args.life c.args.held.now c.args.root.now c.requires.held c.requires.there
 
-pub move_end-requires-clause-there : goal.move_end-requires-clause-there
-move_end-requires-clause-there g c = held_one g.met.O.Order.order c.args.life c.args.held.now c.args.root.now c.requires.held c.requires.there
+pub move_end-requires-clause-has : goal.move_end-requires-clause-has
+move_end-requires-clause-has g c = held_one g.met.O.Order.order c.args.life c.args.held.now c.args.root.now c.requires.held c.requires.there
 
 pub take_out-requires-clause-ordered : goal.take_out-requires-clause-ordered
 take_out-requires-clause-ordered g c =
@@ -26,7 +24,7 @@ take_out-requires-clause-there g c =
 
 pub returns-in-Err-clause-held : goal.returns-in-Err-clause-held
 returns-in-Err-clause-held g c =
-    held_back g.met.O.Order.order c.ending-moved.result c.args.held.now c.put.new.items c.take_out.new.items c.args.root.now c.move_end.new.trie c.in_ok-put.ensures.ok c.take_out.ensures c.requires.held c.in-Err.ensures.err
+    held_back g.met.O.Order.order c.ending-moved.result c.args.held.now c.put.new.items c.take_out.new.items c.args.root.now c.move_end.new.trie c.in_ok-put.ensures.ok c.take_out.ensures c.requires.held c.in-Err.ensures.1
 
 pub returns-in-Err-clause-err : goal.returns-in-Err-clause-err
 returns-in-Err-clause-err g c = taken_back g.met.O.Order.order c.ending-moved.result c.args.held.now c.put.new.items c.take_out.new.items c.in_ok-put.ensures.ok c.take_out.ensures
@@ -49,4 +47,4 @@ returns-clause-ok g c =
 pub returns-clause-held : goal.returns-clause-held
 returns-clause-held g c =
     subst (λ held. AreHeld g.O.Order.stands_before held c.move_end.new.trie) (sym (returns-clause-ok g c))
-    (held_moved g.met.O.Order.order c.args.life c.args.next c.args.held.now c.args.root.now c.move_end.new.trie c.requires.range c.requires.room c.requires.there c.requires.held c.in_default.ensures.ok)
+    (held_moved g.met.O.Order.order c.args.life (ending c.args.next c.args.life) c.args.held.now c.args.root.now c.move_end.new.trie c.requires.room c.requires.there c.requires.held c.in_default.ensures.0)

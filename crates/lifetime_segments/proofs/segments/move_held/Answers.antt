@@ -1,20 +1,19 @@
-use Rattle.std.proofs.Common.{subst, sym, ap, ◌∙◌, arith}
-use Rattle.lifetime_segments.specs.Lifetimes.{IsInRange, stands_earlier}
+use Rattle.std.proofs.Common.{subst, sym, ap, ◌∙◌}
+use Rattle.lifetime_segments.specs.Lifetimes.{stands_earlier}
 use Rattle.lifetime_segments.specs.LifetimeLaws.{earlier_order}
 use Rattle.lifetime_segments.specs.Ordered.{put_in, without}
-use Rattle.lifetime_segments.specs.Tries.{AreHeld}
-use Rattle.lifetime_segments.proofs.Held.{held_one, held_range, held_moved, replaced_at}
+use Rattle.lifetime_segments.specs.Tries.{AreHeld, ending}
+use Rattle.lifetime_segments.proofs.Held.{held_one, held_lies, held_moved, replaced_at}
 use Rattle.lifetime_segments.proofs.Places.{position-some, position-within}
 use Rattle.lifetime_segments.proofs.segments.move_held.Goals as goal
 
-pub move_end-requires-clause-rises : goal.move_end-requires-clause-rises
-move_end-requires-clause-rises g c =
+pub move_end-requires-clause-lies : goal.move_end-requires-clause-lies
+move_end-requires-clause-lies g c =
     let some = position-some (stands_earlier g.O.Order.stands_before) c.args.life c.args.held.now c.args.place c.requires.place in
-    let range : IsInRange c.args.life = held_range g.met.O.Order.order c.args.life c.args.held.now c.args.root.now c.requires.held some.0 in
-    omega arith
+    held_lies g.met.O.Order.order c.args.life c.args.held.now c.args.root.now c.requires.held some.0
 
-pub move_end-requires-clause-there : goal.move_end-requires-clause-there
-move_end-requires-clause-there g c =
+pub move_end-requires-clause-has : goal.move_end-requires-clause-has
+move_end-requires-clause-has g c =
     let some = position-some (stands_earlier g.O.Order.stands_before) c.args.life c.args.held.now c.args.place c.requires.place in
     held_one g.met.O.Order.order c.args.life c.args.held.now c.args.root.now c.requires.held some.0
 
@@ -35,4 +34,4 @@ returns-then-is_beside-clause-held g c =
     let order = g.met.O.Order.order in
     let some = position-some (stands_earlier g.O.Order.stands_before) c.args.life c.args.held.now c.args.place c.requires.place in
     subst (λ held. AreHeld g.O.Order.stands_before held c.move_end.new.trie) (sym (returns-then-is_beside-clause-ok g c))
-    (held_moved order c.args.life c.args.next c.args.held.now c.args.root.now c.move_end.new.trie c.requires.range c.requires.room some.0 c.requires.held c.in_ok-move_end.ensures.ok)
+    (held_moved order c.args.life (ending c.args.next c.args.life) c.args.held.now c.args.root.now c.move_end.new.trie c.requires.room some.0 c.requires.held c.in_ok-move_end.ensures.0)

@@ -1,8 +1,8 @@
 use Rattle.std.proofs.Common.{subst, sym, ◌∙◌, arith}
-use Rattle.lifetime_segments.specs.Lifetimes.{IsInRange, stands_earlier}
+use Rattle.lifetime_segments.specs.Lifetimes.{stands_earlier}
 use Rattle.lifetime_segments.specs.OrderedLaws.{without-none}
 use Rattle.lifetime_segments.specs.Tries.{AreHeld}
-use Rattle.lifetime_segments.proofs.Held.{held_one, held_without, held_range}
+use Rattle.lifetime_segments.proofs.Held.{held_one, held_without, held_lies}
 use Rattle.lifetime_segments.proofs.Places.{position-some, position-none, position-within, position-remove}
 use Rattle.lifetime_segments.proofs.segments.take_held.Goals as goal
 
@@ -14,22 +14,14 @@ returns-in_default-clause-rest g c =
 pub remove-requires : goal.remove-requires
 remove-requires g c = record { within = position-within (stands_earlier g.O.Order.stands_before) c.args.life c.args.held.now c.in-Some.place (sym c.position.ensures ∙ c.in-Some.is) }
 
-pub take-requires-clause-begins : goal.take-requires-clause-begins
-take-requires-clause-begins g c =
+pub take-requires : goal.take-requires
+take-requires g c =
     let some = position-some (stands_earlier g.O.Order.stands_before) c.args.life c.args.held.now c.in-Some.place (sym c.position.ensures ∙ c.in-Some.is) in
-    let range : IsInRange c.args.life = held_range g.met.O.Order.order c.args.life c.args.held.now c.args.root.now c.requires.held some.0 in
-    omega arith
-
-pub take-requires-clause-rises : goal.take-requires-clause-rises
-take-requires-clause-rises g c =
-    let some = position-some (stands_earlier g.O.Order.stands_before) c.args.life c.args.held.now c.in-Some.place (sym c.position.ensures ∙ c.in-Some.is) in
-    let range : IsInRange c.args.life = held_range g.met.O.Order.order c.args.life c.args.held.now c.args.root.now c.requires.held some.0 in
-    range.rises
-
-pub take-requires-clause-has : goal.take-requires-clause-has
-take-requires-clause-has g c =
-    let some = position-some (stands_earlier g.O.Order.stands_before) c.args.life c.args.held.now c.in-Some.place (sym c.position.ensures ∙ c.in-Some.is) in
-    held_one g.met.O.Order.order c.args.life c.args.held.now c.args.root.now c.requires.held some.0
+    record {
+      level = omega arith;
+      lies = held_lies g.met.O.Order.order c.args.life c.args.held.now c.args.root.now c.requires.held some.0;
+      holds = (held_one g.met.O.Order.order c.args.life c.args.held.now c.args.root.now c.requires.held some.0).holds;
+    }
 
 pub returns-clause-found : goal.returns-clause-found
 returns-clause-found g c = sym (position-some (stands_earlier g.O.Order.stands_before) c.args.life c.args.held.now c.in-Some.place (sym c.position.ensures ∙ c.in-Some.is)).0

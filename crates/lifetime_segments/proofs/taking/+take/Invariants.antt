@@ -2,13 +2,10 @@ use Rattle.std.specs.Prelude.{◌+◌, ◌*◌}
 use Rattle.lifetime_segments.proofs.taking.+take.Given as goal
 
 abbrev pub decreases-take : goal.decreases-take
-decreases-take g l = 3 * l.level + 1
+decreases-take g l = 3 * l.level + 2
 
 abbrev pub decreases-take_from_node : goal.decreases-take_from_node
-decreases-take_from_node g l = 3 * l.level
+decreases-take_from_node g l = 3 * l.level + 1
 
-abbrev pub decreases-take_first : goal.decreases-take_first
-decreases-take_first g l = 3 * l.level + 2
-
-abbrev pub decreases-take_second : goal.decreases-take_second
-decreases-take_second g l = 3 * l.level + 2
+abbrev pub decreases-take_part : goal.decreases-take_part
+decreases-take_part g l = 3 * l.level + 3
