@@ -59,7 +59,7 @@ without-none before x (y ∷ ys) none = elim (before y x) as (λ b. cond b (is_i
 ] none
 
 module _ {A : Type 0} {before : A → A → Bool} (order : IsOrder before) where
-  not_both : (x y : A) → before x y ≡ true → before y x ≡ false
+  pub not_both : (x y : A) → before x y ≡ true → before y x ≡ false
   not_both x y up = elim (before y x) as (λ b. before y x ≡ b → b ≡ false) [
     | true ↦ λ down. sym (order.chains x y x up down) ∙ order.strict x
     | false ↦ λ _. refl

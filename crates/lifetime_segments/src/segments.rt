@@ -178,25 +178,6 @@ fn move_held<O: Order>(
         uncounted::replace(held, place, moved);
         return Ok(());
     }
-    move_away::<O>(held, root, life, next)
-}
-
-/// Moves where a lifetime ends that goes past others.
-fn move_away<O: Order>(
-    held: &mut Tree<Lifetime<O::Item>>,
-    root: &mut Trie<O::Item>,
-    life: Lifetime<O::Item>,
-    next: u64,
-) -> Result<(), NoMemory>
-    requires moved { Lies 40 (ending next life) }
-    requires room { length held.old < most_items }
-    requires there { is_in (stands_earlier O.stands_before) life held.old ≡ true }
-    requires held { AreHeld O.stands_before held.old root.old }
-    ensures held { AreHeld O.stands_before held.new root.new }
-    ensures ok { OnOk result (held.new ≡ without (stands_earlier O.stands_before) life (put_in (stands_earlier O.stands_before) (ending next life) held.old)) }
-    ensures err { OnErr result (held.new ≡ held.old) }
-{
-    let moved = life.ending(next);
     put::<ByStart<O>>(held, moved)?;
     if let Err(error) = move_end::<O>(root, LEVELS, life, next, held.alloc()) {
         take_out::<ByStart<O>>(held, moved);
