@@ -3,7 +3,7 @@ use Rattle.std.proofs.Common.{◌≡◌, ◌≤◌, ◌⊎◌, Bool, true, false
 use Rattle.std.specs.Prelude.{map}
 use Rattle.std.specs.List.{filter}
 use Rattle.lifetime_segments.specs.Ordered.{IsOrder, put_in, in_order}
-use Rattle.lifetime_segments.specs.OrderedLaws.{in_order-middle, put_in-swap}
+use Rattle.lifetime_segments.specs.OrderedLaws.{in_order-middle, put_in-either, put_in-swap}
 use Rattle.lifetime_segments.specs.Tries.{with, taken}
 
 abbrev pub after : {Y Z : Type 0} → Option Y → (Y → Option Z) → Option Z
@@ -77,10 +77,8 @@ module _ {X Y : Type 0} (earlier : X → X → Bool) {before : Y → Y → Bool}
 
   taken-put_in : (x : X) (xs : List X) → in_order before (taken f (put_in earlier x xs)) ≡ in_order before (taken f (x ∷ xs))
   taken-put_in x [] = refl
-  taken-put_in x (y ∷ ys) = elim (earlier y x) as (λ b. in_order before (taken f (cond b (y ∷ put_in earlier x ys) (x ∷ y ∷ ys))) ≡ in_order before (taken f (x ∷ y ∷ ys))) [
-    | true ↦ with-alike (f y) (taken f (put_in earlier x ys)) (taken f (x ∷ ys)) (taken-put_in x ys) ∙ with-swap (f y) (f x) (taken f ys)
-    | false ↦ refl
-  ]
+  taken-put_in x (y ∷ ys) = put_in-either (λ zs. in_order before (taken f zs) ≡ in_order before (taken f (x ∷ y ∷ ys))) earlier x y ys
+      (with-alike (f y) (taken f (put_in earlier x ys)) (taken f (x ∷ ys)) (taken-put_in x ys) ∙ with-swap (f y) (f x) (taken f ys)) refl
 
   pub taken-in_order : (xs : List X) → in_order before (taken f (in_order earlier xs)) ≡ in_order before (taken f xs)
   taken-in_order [] = refl

@@ -5,7 +5,7 @@ use Rattle.std.specs.List.{filter}
 use Rattle.std.proofs.lemmas.Bool.Decides.{nat_tests}
 use Rattle.lifetime_segments.specs.declared.lifetime.Lifetime.{Lifetime}
 use Rattle.lifetime_segments.specs.Ordered.{IsOrder, put_in, in_order}
-use Rattle.lifetime_segments.specs.OrderedLaws.{put_in-swap}
+use Rattle.lifetime_segments.specs.OrderedLaws.{put_in-either, put_in-swap}
 use Rattle.lifetime_segments.specs.Lifetimes.{lifetime, holds, items_at, stands_earlier, stands_by_item}
 
 -- a strict order whose ties are the same in some sense
@@ -149,16 +149,12 @@ module _ {A : Type 0} {before : A → A → Bool} (order : IsOrder before) where
   -- a lifetime that is put in
   items_at-put_in : (label : ℕ) (life : Lifetime A) (lives : List (Lifetime A)) → in_order before (items_at label (put_in (stands_earlier before) life lives)) ≡ in_order before (items_at label (life ∷ lives))
   items_at-put_in label life [] = refl
-  items_at-put_in label life (first ∷ lives) = elim (stands_earlier before first life) as
-      (λ b. in_order before (items_at label (cond b (first ∷ put_in (stands_earlier before) life lives) (life ∷ first ∷ lives)))
-      ≡ in_order before (items_at label (life ∷ first ∷ lives))) [
-        | true ↦
-            items_at-cons label first (put_in (stands_earlier before) life lives)
-            ∙ ap (also (holds label first) first.item) (items_at-put_in label life lives ∙ items_at-cons label life lives)
-            ∙ also-swap (holds label first) (holds label life) first.item life.item (in_order before (items_at label lives))
-            ∙ sym (items_at-cons label life (first ∷ lives) ∙ ap (also (holds label life) life.item) (items_at-cons label first lives))
-        | false ↦ refl
-      ]
+  items_at-put_in label life (first ∷ lives) = put_in-either (λ ls. in_order before (items_at label ls) ≡ in_order before (items_at label (life ∷ first ∷ lives))) (stands_earlier before) life first lives
+      (items_at-cons label first (put_in (stands_earlier before) life lives)
+      ∙ ap (also (holds label first) first.item) (items_at-put_in label life lives ∙ items_at-cons label life lives)
+      ∙ also-swap (holds label first) (holds label life) first.item life.item (in_order before (items_at label lives))
+      ∙ sym (items_at-cons label life (first ∷ lives) ∙ ap (also (holds label life) life.item) (items_at-cons label first lives)))
+      refl
 
   -- which items are there at a label does not depend on the order of the lifetimes
   pub items_at-in_order : (label : ℕ) (lives : List (Lifetime A)) → in_order before (items_at label (in_order (stands_earlier before) lives)) ≡ in_order before (items_at label lives)

@@ -4,12 +4,25 @@ use Rattle.std.specs.List.{AllByRecursion}
 use Rattle.retro_base.specs.OrderLaws.{all_weaker}
 use Rattle.lifetime_segments.specs.Ordered.{IsOrder, AreInOrder, put_in, in_order, is_in, without}
 
+-- what holds of a list with an element put in, or without one, by what becomes of its front
+pub put_in-either : {A : Type 0} (P : List A → Type 0) (before : A → A → Bool) (x y : A) (ys : List A) → P (y ∷ put_in before x ys) → P (x ∷ y ∷ ys) → P (put_in before x (y ∷ ys))
+put_in-either P before x y ys past here = elim (before y x) as (λ b. P (cond b (y ∷ put_in before x ys) (x ∷ y ∷ ys))) [
+  | true ↦ past
+  | false ↦ here
+]
+
+without-either : {A : Type 0} (P : List A → Type 0) (before : A → A → Bool) (x y : A) (ys : List A) → P (y ∷ without before x ys) → P (y ∷ ys) → P ys → P (without before x (y ∷ ys))
+without-either P before x y ys past stays gone = elim (before y x) as (λ b. P (cond b (y ∷ without before x ys) (cond (before x y) (y ∷ ys) ys))) [
+  | true ↦ past
+  | false ↦ elim (before x y) as (λ b. P (cond b (y ∷ ys) ys)) [
+    | true ↦ stays
+    | false ↦ gone
+  ]
+]
+
 pub length-put_in : {A : Type 0} (before : A → A → Bool) (x : A) (xs : List A) → length (put_in before x xs) ≡ suc (length xs)
 length-put_in before x [] = refl
-length-put_in before x (y ∷ ys) = elim (before y x) as (λ b. length (cond b (y ∷ put_in before x ys) (x ∷ y ∷ ys)) ≡ suc (suc (length ys))) [
-  | true ↦ ap suc (length-put_in before x ys)
-  | false ↦ refl
-]
+length-put_in before x (y ∷ ys) = put_in-either (λ zs. length zs ≡ suc (suc (length ys))) before x y ys (ap suc (length-put_in before x ys)) refl
 
 pub length-in_order : {A : Type 0} (before : A → A → Bool) (xs : List A) → length (in_order before xs) ≡ length xs
 length-in_order before [] = refl
@@ -17,21 +30,12 @@ length-in_order before (x ∷ xs) = length-put_in before x (in_order before xs) 
 
 pub length-without : {A : Type 0} (before : A → A → Bool) (x : A) (xs : List A) → length (without before x xs) ≤ length xs
 length-without before x [] = omega arith
-length-without before x (y ∷ ys) = elim (before y x) as (λ b. length (cond b (y ∷ without before x ys) (cond (before x y) (y ∷ ys) ys)) ≤ suc (length ys)) [
-  | true ↦ let fewer = length-without before x ys in omega arith
-  | false ↦ elim (before x y) as (λ b. length (cond b (y ∷ ys) ys) ≤ suc (length ys)) [
-    | true ↦ omega arith
-    | false ↦ omega arith
-  ]
-]
+length-without before x (y ∷ ys) = let fewer = length-without before x ys in without-either (λ zs. length zs ≤ suc (length ys)) before x y ys (omega arith) (omega arith) (omega arith)
 
 -- what holds of all elements and of one more holds of all after it is put in
 pub all-put_in : {A : Type 0} (P : A → Type 0) (before : A → A → Bool) (x : A) (xs : List A) → P x → AllByRecursion P xs → AllByRecursion P (put_in before x xs)
 all-put_in P before x [] here all = (here, tt)
-all-put_in P before x (y ∷ ys) here all = elim (before y x) as (λ b. AllByRecursion P (cond b (y ∷ put_in before x ys) (x ∷ y ∷ ys))) [
-  | true ↦ (all.0, all-put_in P before x ys here all.1)
-  | false ↦ (here, all)
-]
+all-put_in P before x (y ∷ ys) here all = put_in-either (AllByRecursion P) before x y ys (all.0, all-put_in P before x ys here all.1) (here, all)
 
 pub all-in_order : {A : Type 0} (P : A → Type 0) (before : A → A → Bool) (xs : List A) → AllByRecursion P xs → AllByRecursion P (in_order before xs)
 all-in_order P before [] all = tt
@@ -39,13 +43,7 @@ all-in_order P before (x ∷ xs) all = all-put_in P before x (in_order before xs
 
 pub all-without : {A : Type 0} (P : A → Type 0) (before : A → A → Bool) (x : A) (xs : List A) → AllByRecursion P xs → AllByRecursion P (without before x xs)
 all-without P before x [] all = tt
-all-without P before x (y ∷ ys) all = elim (before y x) as (λ b. AllByRecursion P (cond b (y ∷ without before x ys) (cond (before x y) (y ∷ ys) ys))) [
-  | true ↦ (all.0, all-without P before x ys all.1)
-  | false ↦ elim (before x y) as (λ b. AllByRecursion P (cond b (y ∷ ys) ys)) [
-    | true ↦ all
-    | false ↦ all.1
-  ]
-]
+all-without P before x (y ∷ ys) all = without-either (AllByRecursion P) before x y ys (all.0, all-without P before x ys all.1) all all.1
 
 -- where it is not there, the list without it is the list
 pub without-none : {A : Type 0} (before : A → A → Bool) (x : A) (xs : List A) → is_in before x xs ≡ false → without before x xs ≡ xs
@@ -204,13 +202,8 @@ module _ {A : Type 0} {before : A → A → Bool} (order : IsOrder before) where
 
   pub without-ordered : (x : A) (xs : List A) → AreInOrder before xs → AreInOrder before (without before x xs)
   without-ordered x [] ordered = tt
-  without-ordered x (y ∷ ys) ordered = elim (before y x) as (λ b. AreInOrder before (cond b (y ∷ without before x ys) (cond (before x y) (y ∷ ys) ys))) [
-    | true ↦ (all-without (λ later. before later y ≡ false) before x ys ordered.0, without-ordered x ys ordered.1)
-    | false ↦ elim (before x y) as (λ b. AreInOrder before (cond b (y ∷ ys) ys)) [
-      | true ↦ ordered
-      | false ↦ ordered.1
-    ]
-  ]
+  without-ordered x (y ∷ ys) ordered =
+      without-either (AreInOrder before) before x y ys (all-without (λ later. before later y ≡ false) before x ys ordered.0, without-ordered x ys ordered.1) ordered ordered.1
 
   -- what holds of all elements holds of one that is there
   pub is_in-all : (P : A → Type 0) (x : A) (xs : List A) → AllByRecursion P xs → is_in before x xs ≡ true → P x

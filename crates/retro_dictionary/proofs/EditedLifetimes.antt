@@ -13,8 +13,7 @@ use Rattle.lifetime_segments.specs.declared.lifetime.Lifetime.{Lifetime}
 use Rattle.lifetime_segments.specs.Lifetimes.{lifetime}
 use Rattle.retro_dictionary.specs.Lifetimes.{end_of, put_by, begun, lifetimes_of}
 use Rattle.retro_dictionary.specs.Changes.{placed_by, up_to_label}
-use Rattle.retro_dictionary.specs.SameItems.{HaveSameItems}
-use Rattle.retro_dictionary.proofs.AsMany.{count-append, same-refl, same-append}
+use Rattle.retro_dictionary.proofs.AsMany.{HaveSameItems, count-append, same-refl, same-append}
 
 -- the last row on a key
 abbrev pub last_on : ℤ → List KeyRow → Option KeyRow

@@ -17,8 +17,7 @@ use Rattle.key_index.specs.KeyRows.{KeyRow, LabelsRise, key_of, is_on, as_row, u
 use Rattle.lifetime_segments.specs.declared.lifetime.Lifetime.{Lifetime}
 use Rattle.lifetime_segments.specs.Lifetimes.{label_end, lifetime, holds, items_at}
 use Rattle.retro_dictionary.specs.Lifetimes.{end_of, put_by, begun, lifetimes_of}
-use Rattle.retro_dictionary.specs.SameItems.{HaveSameItems}
-use Rattle.retro_dictionary.proofs.AsMany.{same-refl, same-sym, same-trans, same-filter, same-append, same-regroup}
+use Rattle.retro_dictionary.proofs.AsMany.{HaveSameItems, same-refl, same-sym, same-trans, same-filter, same-append, same-regroup}
 use Rattle.retro_dictionary.proofs.PairsInOrder.{AreSorted, is_off, sorted_with, sorted_without, with_key-same, without_key-is}
 use Rattle.retro_base.specs.Outcomes.{later_ok}
 

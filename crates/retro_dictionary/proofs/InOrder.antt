@@ -4,8 +4,7 @@ use Rattle.std.specs.List.{count_by}
 use Rattle.std.proofs.lemmas.Bool.{cases_Bool}
 use Rattle.lifetime_segments.specs.Ordered.{IsOrder, put_in, in_order}
 use Rattle.lifetime_segments.specs.OrderedLaws.{put_in-swap}
-use Rattle.retro_dictionary.specs.SameItems.{HaveSameItems}
-use Rattle.retro_dictionary.proofs.AsMany.{count-cons, same-refl, same-trans, same-cons, same-middle}
+use Rattle.retro_dictionary.proofs.AsMany.{HaveSameItems, count-cons, same-refl, same-trans, same-cons, same-middle}
 
 counted_yes : (b : Bool) → b ≡ true → cond {A = ℕ} b 1 0 ≡ 1
 counted_yes true passes = refl

@@ -13,8 +13,7 @@ use Rattle.retro_dictionary.specs.Edited.{placed_at, all_put, all_taken, cut_at,
 use Rattle.retro_dictionary.specs.LabelledRows.{ordered}
 use Rattle.retro_dictionary.specs.Lifetimes.{end_of, put_by, begun, lifetimes_of}
 use Rattle.retro_dictionary.specs.PairSearchLaws.{pair_order}
-use Rattle.retro_dictionary.specs.SameItems.{HaveSameItems}
-use Rattle.retro_dictionary.proofs.AsMany.{count-append}
+use Rattle.retro_dictionary.proofs.AsMany.{HaveSameItems, count-append}
 use Rattle.retro_dictionary.proofs.EditedLifetimes.{edited, last_on, put_key}
 use Rattle.retro_dictionary.proofs.InOrder.{in_order-same}
 

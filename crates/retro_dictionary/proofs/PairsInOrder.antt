@@ -8,8 +8,7 @@ use Rattle.std.proofs.lemmas.Bool.Decides.{Decides-int_eq}
 use Rattle.std.proofs.lemmas.Cmp.{int_cmp_total}
 use Rattle.std.proofs.lemmas.Map.Lookups.{exact_signed}
 use Rattle.retro_base.specs.State.{with_key}
-use Rattle.retro_dictionary.specs.SameItems.{HaveSameItems}
-use Rattle.retro_dictionary.proofs.AsMany.{same-refl, same-cons, same-trans, same-middle}
+use Rattle.retro_dictionary.proofs.AsMany.{HaveSameItems, same-refl, same-cons, same-trans, same-middle}
 
 abbrev pub AreSorted : List (ℤ × ℤ) → Type 0
 AreSorted ps = IsStrictlySortedBy int_cmp (keys_of ps)

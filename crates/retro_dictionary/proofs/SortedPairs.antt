@@ -9,7 +9,7 @@ use Rattle.lifetime_segments.specs.OrderedLaws.{not_before-chains, in_order-kept
 use Rattle.retro_base.specs.OrderLaws.{all_weaker}
 use Rattle.retro_dictionary.specs.PairSearch.{pair_before}
 use Rattle.retro_dictionary.specs.PairSearchLaws.{pair_order}
-use Rattle.retro_dictionary.specs.SameItems.{HaveSameItems}
+use Rattle.retro_dictionary.proofs.AsMany.{HaveSameItems}
 use Rattle.retro_dictionary.proofs.InOrder.{in_order-same}
 
 same-moved : {A : Type 0} (xs ys : List A) → IsPermutation xs ys → HaveSameItems xs ys

@@ -1,6 +1,5 @@
 pub use Rattle.key_index.specs.KeyRows
 pub mod Lifetimes
-pub mod SameItems
 pub mod Changes
 pub mod PairSearch
 pub mod PairMeasure

@@ -1,5 +1,5 @@
 -- What is found of two lists of pairs is put together from what is found of each.
-use Rattle.std.proofs.Common.{◌≡◌, ℕ, ◌+◌, ◌-◌, suc, ℤ, pos, ◌+ℤ◌, ◌<ℤ◌, ◌⊎◌, Bool, true, false, ◌&&◌, ◌||◌, cond, Option, Some, None, List, [], ◌∷◌, ◌++◌, length, refl, sym, ap, ◌∙◌, arith, inl, inr}
+use Rattle.std.proofs.Common.{◌≡◌, ℕ, ◌+◌, ◌-◌, suc, ℤ, pos, ◌+ℤ◌, Bool, true, false, ◌&&◌, ◌||◌, cond, Option, Some, None, List, [], ◌∷◌, ◌++◌, length, refl, sym, ap, ◌∙◌, arith}
 use Rattle.std.specs.Prelude.{int_le, int_lt, slice_get}
 use Rattle.std.specs.List.{AllByRecursion, filter, fold}
 use Rattle.std.specs.Ordering.{int_eq}
@@ -8,7 +8,8 @@ use Rattle.std.proofs.lemmas.Int.{ints, int_wrap_fits, SFits-int_wrap, int_wrap-
 use Rattle.retro_base.specs.Answers.{pairs_between, sum_of_values, last_of}
 use Rattle.lifetime_segments.specs.Lawful.{AreLawful, RangeLaws, SearchLaws}
 use Rattle.lifetime_segments.specs.Ordered.{IsOrder, AreInOrder, put_in, in_order}
-use Rattle.lifetime_segments.specs.OrderedLaws.{in_order-ordered, between}
+use Rattle.lifetime_segments.specs.LifetimeLaws.{IsOrderUpTo, order_as, tied_by, tied_order}
+use Rattle.lifetime_segments.specs.OrderedLaws.{in_order-ordered, not_before-chains, not_both, put_in-either}
 use Rattle.retro_dictionary.specs.declared.pairs.Found.{Found}
 use Rattle.retro_dictionary.specs.declared.pairs.KeyRange.{KeyRange}
 use Rattle.retro_dictionary.specs.PairSearch.{pair_before, found_of, found_in, lesser, greater, none_found, found_together, in_bits, stands_above, stands_below}
@@ -19,76 +20,36 @@ found count sum least greatest = record { count = count; sum = sum; least = leas
 same : (m n : ℕ) (x y : ℤ) (a b c d : Option (ℤ × ℤ)) → m ≡ n → x ≡ y → a ≡ b → c ≡ d → found m x a c ≡ found n y b d
 same m n x y a b c d p q r s = cc
 
--- first by a number
-abbrev by : ℤ → ℤ → Bool → Bool
-by m n rest = int_lt m n || (int_eq m n && rest)
+int_order : IsOrder int_lt
+int_order = record { strict = strict; chains = chains; total = total } where
+  strict : (n : ℤ) → int_lt n n ≡ false
+  strict n = grind (arith, ints)
 
-by-less : (m n : ℤ) (rest : Bool) → m <ℤ n → by m n rest ≡ true
-by-less m n rest less = grind (arith, ints)
+  chains : (m n o : ℤ) → int_lt m n ≡ true → int_lt n o ≡ true → int_lt m o ≡ true
+  chains m n o first second = grind (arith, ints)
 
-by-same : (n : ℤ) (rest : Bool) → by n n rest ≡ rest
-by-same n true = grind (arith, ints)
-by-same n false = grind (arith, ints)
-
-by-true : (m n : ℤ) (rest : Bool) → by m n rest ≡ true → (m <ℤ n) ⊎ ((m ≡ n) × (rest ≡ true))
-by-true m n true up = grind (arith, ints)
-by-true m n false up = grind (arith, ints)
-
-by-false : (m n : ℤ) (rest : Bool) → by m n rest ≡ false → (n <ℤ m) ⊎ ((m ≡ n) × (rest ≡ false))
-by-false m n true down = grind (arith, ints)
-by-false m n false down = grind (arith, ints)
+  total : (m n : ℤ) → int_lt m n ≡ false → int_lt n m ≡ false → m ≡ n
+  total m n first second = grind (arith, ints)
 
 -- the order of pairs is strict and total
 pub pair_order : IsOrder pair_before
-pair_order = record {
-  strict = λ p. by-same p.0 (int_lt p.1 p.1) ∙ less_itself p.1;
-  chains = λ p q r first second. elim (by-true p.0 q.0 (int_lt p.1 q.1) first) [
-    | inl less ↦ elim (by-true q.0 r.0 (int_lt q.1 r.1) second) [
-      | inl later ↦ by-less p.0 r.0 (int_lt p.1 r.1) (omega (arith, ints))
-      | inr level ↦ by-less p.0 r.0 (int_lt p.1 r.1) (let tie : q.0 ≡ r.0 = level.0 in omega (arith, ints))
-    ]
-    | inr tied ↦ elim (by-true q.0 r.0 (int_lt q.1 r.1) second) [
-      | inl later ↦ by-less p.0 r.0 (int_lt p.1 r.1) (let tie : p.0 ≡ q.0 = tied.0 in omega (arith, ints))
-      | inr level ↦ ap (λ n. by n r.0 (int_lt p.1 r.1)) (tied.0 ∙ level.0) ∙ by-same r.0 (int_lt p.1 r.1) ∙ less_chains p.1 q.1 r.1 tied.1 level.1
-    ]
-  ];
-  total = λ p q first second. elim (by-false p.0 q.0 (int_lt p.1 q.1) first) [
-    | inl over ↦ elim (by-false q.0 p.0 (int_lt q.1 p.1) second) [
-      | inl under ↦ absurd (omega (arith, ints))
-      | inr level ↦ absurd (let tie : q.0 ≡ p.0 = level.0 in omega (arith, ints))
-    ]
-    | inr tied ↦ elim (by-false q.0 p.0 (int_lt q.1 p.1) second) [
-      | inl under ↦ absurd (let tie : p.0 ≡ q.0 = tied.0 in omega (arith, ints))
-      | inr level ↦ same_pair p.0 q.0 p.1 q.1 tied.0 (less_neither p.1 q.1 tied.1 level.1)
-    ]
-  ];
-} where
-  less_itself : (n : ℤ) → int_lt n n ≡ false
-  less_itself n = grind (arith, ints)
+pair_order = record { strict = ties.strict; chains = ties.chains; total = λ p q first second. let same = ties.total p q first second in same_pair p.0 q.0 p.1 q.1 same.0 same.1 } where
+  values : IsOrderUpTo (λ (p q : ℤ × ℤ). int_lt p.1 q.1) (λ p q. p.1 ≡ q.1)
+  values = record { strict = λ p. int_order.strict p.1; chains = λ p q r. int_order.chains p.1 q.1 r.1; total = λ p q. int_order.total p.1 q.1 }
 
-  less_chains : (m n o : ℤ) → int_lt m n ≡ true → int_lt n o ≡ true → int_lt m o ≡ true
-  less_chains m n o first second = grind (arith, ints)
+  tied : (m n : ℤ) (b : Bool) → (int_lt m n || (int_eq m n && b)) ≡ tied_by int_lt m n b
+  tied m n true = grind (arith, ints)
+  tied m n false = grind (arith, ints)
 
-  less_neither : (m n : ℤ) → int_lt m n ≡ false → int_lt n m ≡ false → m ≡ n
-  less_neither m n first second = grind (arith, ints)
+  ties : IsOrderUpTo pair_before (λ (p q : ℤ × ℤ). (p.0 ≡ q.0) × (p.1 ≡ q.1))
+  ties = order_as (λ (p q : ℤ × ℤ). tied_by int_lt p.0 q.0 (int_lt p.1 q.1)) pair_before _ (λ p q. tied p.0 q.0 (int_lt p.1 q.1))
+      (tied_order int_order (λ (p : ℤ × ℤ). p.0) (λ p q. int_lt p.1 q.1) (λ p q. p.1 ≡ q.1) values)
 
   same_pair : (a b c d : ℤ) → a ≡ b → c ≡ d → (let pair : ℤ × ℤ = (a, c) in pair) ≡ (b, d)
   same_pair a b c d first second = cc
 
 -- the first of two in an order, where they are there
 module _ {A : Type 0} {before : A → A → Bool} (order : IsOrder before) where
-  not_both : (x y : A) → before x y ≡ true → before y x ≡ false
-  not_both x y up = elim (before y x) as (λ b. before y x ≡ b → b ≡ false) [
-    | true ↦ λ down. sym (order.chains x y x up down) ∙ order.strict x
-    | false ↦ λ level. refl
-  ] refl
-
-  after : (x y z : A) → before y x ≡ false → before z y ≡ false → before z x ≡ false
-  after x y z near far = elim (before z x) as (λ b. before z x ≡ b → b ≡ false) [
-    | true ↦ λ past. sym (between order x y z past far) ∙ near
-    | false ↦ λ level. refl
-  ] refl
-
   abbrev pub first : Option A → Option A → Option A
   first None q = q
   first (Some p) None = Some p
@@ -102,7 +63,7 @@ module _ {A : Type 0} {before : A → A → Bool} (order : IsOrder before) where
   first-swap None u = sym (first-none u)
   first-swap (Some p) None = refl
   first-swap (Some p) (Some q) = elim (before q p) as (λ a. before q p ≡ a → cond a (Some q) (Some p) ≡ cond (before p q) (Some p) (Some q)) [
-    | true ↦ λ less. sym (ap (λ b. cond b (Some p) (Some q)) (not_both q p less))
+    | true ↦ λ less. sym (ap (λ b. cond b (Some p) (Some q)) (not_both order q p less))
     | false ↦ λ more. elim (before p q) as (λ b. before p q ≡ b → Some p ≡ cond b (Some p) (Some q)) [
       | true ↦ λ less. refl
       | false ↦ λ neither. ap Some (order.total p q neither more)
@@ -121,45 +82,33 @@ module _ {A : Type 0} {before : A → A → Bool} (order : IsOrder before) where
         ] refl
         | false ↦ λ pq. elim (before r q) as (λ b. before r q ≡ b → cond (before r p) (Some r) (Some p) ≡ first (Some p) (cond b (Some r) (Some q))) [
           | true ↦ λ rq. refl
-          | false ↦ λ qr. ap (λ c. cond c (Some r) (Some p)) (after p q r pq qr) ∙ sym (ap (λ c. cond c (Some q) (Some p)) pq)
+          | false ↦ λ qr. ap (λ c. cond c (Some r) (Some p)) (not_before-chains order p q r pq qr) ∙ sym (ap (λ c. cond c (Some q) (Some p)) pq)
         ] refl
       ] refl
 
 turned : {A : Type 0} {before : A → A → Bool} → IsOrder before → IsOrder (λ x y. before y x)
 turned order = record { strict = order.strict; chains = λ x y z p q. order.chains z y x q p; total = λ x y p q. order.total x y q p }
 
+-- what answers as the first of two in an order does not ask for their order or grouping
+module _ {A : Type 0} {before : A → A → Bool} (order : IsOrder before) (choose : Option A → Option A → Option A) (is : (o u : Option A) → choose o u ≡ first order o u) where
+  swap : (o u : Option A) → choose o u ≡ choose u o
+  swap o u = is o u ∙ first-swap order o u ∙ sym (is u o)
+
+  regroup : (o u v : Option A) → choose (choose o u) v ≡ choose o (choose u v)
+  regroup o u v = is (choose o u) v ∙ ap (λ w. first order w v) (is o u) ∙ first-regroup order o u v ∙ sym (is o (choose u v) ∙ ap (first order o) (is u v))
+
 lesser-first : (o u : Option (ℤ × ℤ)) → lesser o u ≡ first pair_order o u
 lesser-first None u = refl
 lesser-first (Some p) None = refl
 lesser-first (Some p) (Some q) = refl
 
--- the greater of two, each of which can be the first: they are one where neither stands before the other
+-- the greater of two is the first of them in the order turned round
 greater-first : (o u : Option (ℤ × ℤ)) → greater o u ≡ first (turned pair_order) o u
-greater-first None u = refl
-greater-first (Some p) None = refl
-greater-first (Some p) (Some q) = elim (pair_before q p) as (λ a. pair_before q p ≡ a → cond a (Some p) (Some q) ≡ cond (pair_before p q) (Some q) (Some p)) [
-  | true ↦ λ less. sym (ap (λ b. cond b (Some q) (Some p)) (not_both pair_order q p less))
-  | false ↦ λ more. elim (pair_before p q) as (λ b. pair_before p q ≡ b → Some q ≡ cond b (Some q) (Some p)) [
-    | true ↦ λ less. refl
-    | false ↦ λ neither. ap Some (sym (pair_order.total p q neither more))
-  ] refl
-] refl
-
-lesser-swap : (o u : Option (ℤ × ℤ)) → lesser o u ≡ lesser u o
-lesser-swap o u = lesser-first o u ∙ first-swap pair_order o u ∙ sym (lesser-first u o)
-
-greater-swap : (o u : Option (ℤ × ℤ)) → greater o u ≡ greater u o
-greater-swap o u = greater-first o u ∙ first-swap (turned pair_order) o u ∙ sym (greater-first u o)
-
-lesser-regroup : (o u v : Option (ℤ × ℤ)) → lesser (lesser o u) v ≡ lesser o (lesser u v)
-lesser-regroup o u v =
-    lesser-first (lesser o u) v ∙ ap (λ w. first pair_order w v) (lesser-first o u) ∙ first-regroup pair_order o u v
-    ∙ sym (lesser-first o (lesser u v) ∙ ap (first pair_order o) (lesser-first u v))
-
-greater-regroup : (o u v : Option (ℤ × ℤ)) → greater (greater o u) v ≡ greater o (greater u v)
-greater-regroup o u v =
-    greater-first (greater o u) v ∙ ap (λ w. first (turned pair_order) w v) (greater-first o u) ∙ first-regroup (turned pair_order) o u v
-    ∙ sym (greater-first o (greater u v) ∙ ap (first (turned pair_order) o) (greater-first u v))
+greater-first o u = second o u ∙ first-swap (turned pair_order) u o where
+  second : (o u : Option (ℤ × ℤ)) → greater o u ≡ first (turned pair_order) u o
+  second None u = sym (first-none (turned pair_order) u)
+  second (Some p) None = refl
+  second (Some p) (Some q) = refl
 
 -- a sum that 128 bits hold
 abbrev IsHeld : Found → Type 0
@@ -180,12 +129,12 @@ together-swap : (a b : Found) → found_together a b ≡ found_together b a
 together-swap a b =
     same (a.count + b.count) (b.count + a.count) (in_bits (a.sum +ℤ b.sum)) (in_bits (b.sum +ℤ a.sum)) _ _ _ _ (omega arith)
     (ap in_bits (let turned_round : a.sum +ℤ b.sum ≡ b.sum +ℤ a.sum = omega (arith, ints) in turned_round))
-    (lesser-swap a.least b.least) (greater-swap a.greatest b.greatest)
+    (swap pair_order lesser lesser-first a.least b.least) (swap (turned pair_order) greater greater-first a.greatest b.greatest)
 
 together-regroup : (a b c : Found) → found_together (found_together a b) c ≡ found_together a (found_together b c)
 together-regroup a b c =
     same (a.count + b.count + c.count) (a.count + (b.count + c.count)) _ _ _ _ _ _ (omega arith) (regroup_bits a.sum b.sum c.sum)
-    (lesser-regroup a.least b.least c.least) (greater-regroup a.greatest b.greatest c.greatest)
+    (regroup pair_order lesser lesser-first a.least b.least c.least) (regroup (turned pair_order) greater greater-first a.greatest b.greatest c.greatest)
 
 none-together : (a : Found) → IsHeld a → found_together none_found a ≡ a
 none-together a is =
@@ -211,13 +160,12 @@ module _ (range : KeyRange) where
 
   gathered-put_in : (p : ℤ × ℤ) (qs : List (ℤ × ℤ)) → gathered (put_in pair_before p qs) ≡ gathered (p ∷ qs)
   gathered-put_in p [] = refl
-  gathered-put_in p (q ∷ qs) = elim (pair_before q p) as (λ b. gathered (cond b (q ∷ put_in pair_before p qs) (p ∷ q ∷ qs)) ≡ gathered (p ∷ q ∷ qs)) [
-    | true ↦
-        let one = found_in (p ∷ []) range in
-        let other = found_in (q ∷ []) range in
-        ap (found_together other) (gathered-put_in p qs) ∙ sym (together-regroup other one (gathered qs)) ∙ ap (λ f. found_together f (gathered qs)) (together-swap other one) ∙ together-regroup one other (gathered qs)
-    | false ↦ refl
-  ]
+  gathered-put_in p (q ∷ qs) =
+      let one = found_in (p ∷ []) range in
+      let other = found_in (q ∷ []) range in
+      put_in-either (λ ps. gathered ps ≡ gathered (p ∷ q ∷ qs)) pair_before p q qs
+      (ap (found_together other) (gathered-put_in p qs) ∙ sym (together-regroup other one (gathered qs)) ∙ ap (λ f. found_together f (gathered qs)) (together-swap other one) ∙ together-regroup one other (gathered qs))
+      refl
 
   gathered-in_order : (ps : List (ℤ × ℤ)) → gathered (in_order pair_before ps) ≡ gathered ps
   gathered-in_order [] = refl
@@ -295,20 +243,20 @@ pub pair_range_laws : RangeLaws pair_before found_in stands_below stands_above
 pair_range_laws = record {
   below_downward = λ range x y after low. keys_rise x y range.low after low;
   above_upward = λ range x y after high. keys_fall x y range.high after high;
-  of_below = λ xs range all. ap found_of (none_below range xs all);
-  of_above = λ xs range all. ap found_of (none_above range xs all);
+  of_below = λ xs range all. ap found_of (none range (stands_below range) (λ p. out_below range.low range.high p.0) xs all);
+  of_above = λ xs range all. ap found_of (none range (stands_above range) (λ p. out_above range.low range.high p.0) xs all);
 } where
+  not_less : (x y : ℤ × ℤ) → pair_before y x ≡ false → int_lt y.0 x.0 ≡ false
+  not_less x y after = neither (int_lt y.0 x.0) (int_eq y.0 x.0 && int_lt y.1 x.1) after where
+    neither : (a b : Bool) → (a || b) ≡ false → a ≡ false
+    neither true b never = absurd (cc)
+    neither false b _ = refl
+
   keys_rise : (x y : ℤ × ℤ) (low : ℤ) → pair_before y x ≡ false → int_lt y.0 low ≡ true → int_lt x.0 low ≡ true
-  keys_rise x y low after below = elim (by-false y.0 x.0 (int_lt y.1 x.1) after) [
-    | inl less ↦ grind (arith, ints)
-    | inr tied ↦ let tie : y.0 ≡ x.0 = tied.0 in grind (arith, ints)
-  ]
+  keys_rise x y low after below = let not = not_less x y after in grind (arith, ints)
 
   keys_fall : (x y : ℤ × ℤ) (high : ℤ) → pair_before y x ≡ false → int_lt high x.0 ≡ true → int_lt high y.0 ≡ true
-  keys_fall x y high after above = elim (by-false y.0 x.0 (int_lt y.1 x.1) after) [
-    | inl less ↦ grind (arith, ints)
-    | inr tied ↦ let tie : y.0 ≡ x.0 = tied.0 in grind (arith, ints)
-  ]
+  keys_fall x y high after above = let not = not_less x y after in grind (arith, ints)
 
   out_below : (low high key : ℤ) → int_lt key low ≡ true → (int_le low key && int_le key high) ≡ false
   out_below low high key below = grind (arith, ints)
@@ -316,10 +264,8 @@ pair_range_laws = record {
   out_above : (low high key : ℤ) → int_lt high key ≡ true → (int_le low key && int_le key high) ≡ false
   out_above low high key above = grind (arith, ints)
 
-  none_below : (range : KeyRange) (ps : List (ℤ × ℤ)) → AllByRecursion (λ p. stands_below range p ≡ true) ps → pairs_between range.low range.high ps ≡ []
-  none_below range [] all = refl
-  none_below range (p ∷ ps) all = ap (λ b. cond b (p ∷ pairs_between range.low range.high ps) (pairs_between range.low range.high ps)) (out_below range.low range.high p.0 all.0) ∙ none_below range ps all.1
-
-  none_above : (range : KeyRange) (ps : List (ℤ × ℤ)) → AllByRecursion (λ p. stands_above range p ≡ true) ps → pairs_between range.low range.high ps ≡ []
-  none_above range [] all = refl
-  none_above range (p ∷ ps) all = ap (λ b. cond b (p ∷ pairs_between range.low range.high ps) (pairs_between range.low range.high ps)) (out_above range.low range.high p.0 all.0) ∙ none_above range ps all.1
+  -- where no pair is in the range
+  none : (range : KeyRange) (outside : ℤ × ℤ → Bool) → ((p : ℤ × ℤ) → outside p ≡ true → (int_le range.low p.0 && int_le p.0 range.high) ≡ false) → (ps : List (ℤ × ℤ)) → AllByRecursion (λ p. outside p ≡ true) ps
+      → pairs_between range.low range.high ps ≡ []
+  none range outside out [] all = refl
+  none range outside out (p ∷ ps) all = ap (λ b. cond b (p ∷ pairs_between range.low range.high ps) (pairs_between range.low range.high ps)) (out p all.0) ∙ none range outside out ps all.1

@@ -39,15 +39,12 @@ pub(crate) fn answer_from(question: Question, found: &Found) -> Answer
     ensures { result ≡ answer_from question found.now }
 {
     match question {
-        Question::Size => Answer::Number {
+        Question::Size | Question::Count { .. } => Answer::Number {
             value: i128::from(found.count),
         },
         Question::Get { .. } => number_of(value_of(found.least)),
         Question::Succ { .. } => pair_of(found.least),
         Question::Pred { .. } => pair_of(found.greatest),
-        Question::Count { .. } => Answer::Number {
-            value: i128::from(found.count),
-        },
         Question::Sum { .. } => Answer::Number { value: found.sum },
         _ => Answer::Nothing,
     }

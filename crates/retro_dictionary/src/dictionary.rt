@@ -1,20 +1,21 @@
 //! The type and its calls.
 
-ghost use Rattle.std.specs.Prelude.{◌≡◌, ◌≤◌, [], length, IfOk};
+ghost use Rattle.std.specs.Prelude.{◌≡◌, ◌≤◌, [], length};
 ghost use Rattle.retro_base.specs.declared.kind.Kind.TheVariants.{Dict};
-ghost use Rattle.retro_base.specs.Answers.{answer_of, content};
+ghost use Rattle.retro_base.specs.Answers.{answer_of};
 ghost use Rattle.retro_base.specs.Replay.{state_at};
 
 use crate::asked::{answer_from, found_at, number_of, range_of, value_at};
 use crate::edit::{put, take_out};
 use crate::failing::{place_of_bad, place_of_bad_label};
 use crate::free_label::label_before;
-use crate::labelled_rows::{LabelledRows, op_of_row};
+use crate::labelled_rows::LabelledRows;
 use crate::listed::list_at;
 use crate::recent::recent_beside;
 use retro_base::{Answer, Change, Kind, Listing, NoMemory, Op, Question, Retro, Row};
 use std::alloc::Global;
 use std::marker::Model;
+use weighted_tree::uncounted;
 
 /// A dictionary whose past can be edited, which contracts see as its rows.
 #[derive(Drop)]
@@ -60,19 +61,6 @@ impl RetroDictionary {
         );
         answer_from(question, &found)
     }
-
-    /// The whole content at a place, after so many rows.
-    fn listing_at(&self, place: u32) -> Result<Listing, NoMemory>
-        requires within { place ≤ length self.now }
-        ensures { IfOk result (λ listing. listing ≡ content (state_at Dict self.now place)) }
-    {
-        list_at(
-            &self.kept.labels,
-            &self.kept.segments,
-            place,
-            self.kept.rows.alloc(),
-        )
-    }
 }
 
 impl Retro for RetroDictionary {
@@ -102,7 +90,7 @@ impl Retro for RetroDictionary {
 
     fn failure_after_remove(&self, place: u32) -> Option<u32> {
         let label = self.kept.labels.label_at(place);
-        let op = op_of_row(&self.kept.rows, place);
+        let op = uncounted::get(&self.kept.rows, place).value().op();
         place_of_bad_label(
             &self.kept.labels,
             place,
@@ -130,6 +118,11 @@ impl Retro for RetroDictionary {
     }
 
     fn all(&mut self, place: u32) -> Result<Listing, NoMemory> {
-        self.listing_at(place)
+        list_at(
+            &self.kept.labels,
+            &self.kept.segments,
+            place,
+            self.kept.rows.alloc(),
+        )
     }
 }

@@ -1,7 +1,6 @@
 //! What a dictionary keeps of its rows.
 
-ghost use Rattle.std.specs.Prelude.{◌≡◌, ◌<◌, [], Some, length, slice_get};
-ghost use Rattle.std.specs.Option.{option_map};
+ghost use Rattle.std.specs.Prelude.{◌≡◌, []};
 ghost use Rattle.retro_dictionary.specs.Ready.{IsLabelled};
 
 use crate::search::PairSearch;
@@ -9,9 +8,9 @@ use key_index::KeyIndex;
 use lifetime_segments::Segments;
 use monoid_laws::Counted;
 use order_labels::Labels;
-use retro_base::{Op, PackedRow};
+use retro_base::PackedRow;
 use std::alloc::Global;
-use weighted_tree::{Tree, uncounted};
+use weighted_tree::Tree;
 
 /// What a dictionary keeps of its rows.
 #[derive(Drop)]
@@ -37,12 +36,4 @@ impl LabelledRows {
             segments: Segments::new(alloc),
         }
     }
-}
-
-/// The operation of the row at a place.
-pub(crate) fn op_of_row(rows: &Tree<Counted<PackedRow>>, place: u32) -> Op
-    requires within { place < length rows.now }
-    ensures { option_map (λ row. row.op) (slice_get rows.now place) ≡ Some result }
-{
-    uncounted::get(rows, place).value().op()
 }

@@ -76,11 +76,8 @@ fn add(
 fn take(segments: &mut Segments<PairSearch>, placed: &Option<(u64, KeyPair)>, to: u64)
     ensures { segments.new ≡ all_taken (up_to_label placed.now to) segments.old }
 {
-    match placed {
-        Some((from, pair)) => {
-            segments.take(*from, to, *pair);
-        }
-        None => {}
+    if let Some((from, pair)) = placed {
+        segments.take(*from, to, *pair);
     }
 }
 

@@ -1,14 +1,10 @@
 //! The whole content at a place.
 
 ghost use Rattle.std.specs.Prelude.{◌≡◌, ◌<◌, ◌≤◌, ◌^◌, length, IfOk};
-ghost use Rattle.lifetime_segments.specs.Lawful.{most_items};
-ghost use Rattle.lifetime_segments.specs.Lifetimes.{label_end, items_at};
-ghost use Rattle.lifetime_segments.specs.Ordered.{in_order};
 ghost use Rattle.order_labels.specs.Labels.{AreLabels};
 ghost use Rattle.retro_base.specs.Answers.{content};
 ghost use Rattle.retro_base.specs.State.{pairs};
 ghost use Rattle.retro_dictionary.specs.Asked.{pairs_at};
-ghost use Rattle.retro_dictionary.specs.PairSearch.{pair_before};
 
 use crate::pairs::KeyPair;
 use crate::search::PairSearch;
@@ -31,19 +27,9 @@ pub(crate) fn list_at(
     if place == 0 {
         return Ok(Listing::new(alloc));
     }
-    let held = held_at(segments, labels.label_at(place - 1))?;
-    listing_of(&held, alloc)
-}
-
-/// The pairs whose lifetimes hold a label, in their order.
-fn held_at(segments: &Segments<PairSearch>, label: u64) -> Result<Vec<KeyPair>, NoMemory>
-    requires within { label < label_end }
-    ensures pairs { IfOk result (λ held. held.items ≡ in_order pair_before (items_at label segments.now)) }
-    ensures few { IfOk result (λ held. length held.items ≤ most_items) }
-{
-    let mut held = segments.items_at(label)?;
+    let mut held = segments.items_at(labels.label_at(place - 1))?;
     held.sort_unstable();
-    Ok(held)
+    listing_of(&held, alloc)
 }
 
 /// The listing of these pairs.

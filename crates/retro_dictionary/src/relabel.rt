@@ -184,32 +184,11 @@ pub(crate) fn put_relabelled(kept: &mut LabelledRows, place: u32, row: Row) -> R
     let count = kept.rows.len();
     let former = labels_before(&kept.labels, alloc)?;
     let fresh = labels_after(count, place, alloc)?;
-    put_with_labels(kept, place, row, &former, &fresh)
-}
-
-/// Puts a row in at a place, where the others get these labels in place of their former ones. After `NoMemory` all is as before.
-fn put_with_labels(
-    kept: &mut LabelledRows,
-    place: u32,
-    row: Row,
-    former: &Labels2,
-    fresh: &Labels2,
-) -> Result<(), NoMemory>
-    requires ready { IsReadyFor kept.old place row }
-    requires full { has_room kept.old.labels place ≡ false }
-    requires former { former.now ≡ kept.old.labels }
-    requires fresh { fresh.now ≡ other_labels (length kept.old.rows) place }
-    ensures rows { OnOk result (kept.new.rows ≡ insert kept.old.rows place row) }
-    ensures labels { OnOk result (kept.new.labels ≡ spread (length kept.old.labels + 1)) }
-    ensures insertions_since_relabel { OnOk result (kept.new.insertions_since_relabel ≡ 0) }
-    ensures kept { OnOk result (IsLabelled kept.new) }
-    ensures err { OnErr result (kept.new ≡ kept.old) }
-{
-    let label = new_label(kept.rows.len(), place);
-    relabel_with(&mut kept.index, former, fresh, label, row.op)?;
+    let label = new_label(count, place);
+    relabel_with(&mut kept.index, &former, &fresh, label, row.op)?;
     if put_indexed(kept, place, row).is_err() {
         kept.index.remove_row(label, row.op);
-        kept.index.relabel(fresh, former);
+        kept.index.relabel(&fresh, &former);
         return Err(NoMemory);
     }
     Ok(())
