@@ -28,11 +28,7 @@ cut_there (byte ∷ text) within =
 
 none : (text : List ℕ) → length text ≤ size text → has_line_feed text ≡ false
 none [] past = refl
-none (byte ∷ text) past =
-    elim (eqb byte 10) as (λ b. eqb byte 10 ≡ b → suc (length text) ≤ cond (not b) (1 + size text) 0 → cond b true (has_line_feed text) ≡ false) [
-      | true ↦ λ is here. absurd (omega arith)
-      | false ↦ λ other here. none text (omega arith)
-    ] refl past
+none (byte ∷ text) past = grind (arith, none text)
 
 -- the first line, and what is after it
 pub first_line : (text : List ℕ) (at : ℕ) → at ≡ size text → at < length text → lines text ≡ without_return (take at text) ∷ lines (drop (at + 1) text)

@@ -14,13 +14,12 @@ use Rattle.retro_cli.specs.declared.status.Status.TheVariants as statuses
 use Rattle.retro_cli.specs.Audience.{Audience, followed}
 use Rattle.retro_cli.specs.Delivery.{Arrives, IsCutOff}
 use Rattle.retro_cli.specs.Ends.{Answers, EndsAfterLine, EndsAtSend, EndsAtSink, ScriptStands}
-use Rattle.retro_cli.specs.FollowedProgram.{RunsBy, RunsFollowed}
-use Rattle.retro_cli.specs.Forms.{form_of, is_follow}
+use Rattle.retro_cli.specs.FollowedProgram.{EndsUnsentBy, RunsBy}
 use Rattle.retro_cli.specs.Output.{Answering, alone}
-use Rattle.retro_cli.specs.Program.{AnswersScript, JudgesEvidence, Runs, RunsAlone, SumsUp}
+use Rattle.retro_cli.specs.Program.{AnswersScript, JudgesEvidence, SumsUp}
 use Rattle.retro_cli.specs.Promise.{KeepsPromise}
+use Rattle.retro_cli.specs.Run.{EndsBetweenLines, HasAnswered}
 use Rattle.retro_cli.specs.Summary.{summary}
-use Rattle.retro_cli.specs.Unsent.{EndsUnsent, EndsUnsentBy}
 
 no_form : (form : Form) → ◌≡◌ {A = Option Form} (Some form) None → ⊥
 no_form form e = cc
@@ -96,16 +95,6 @@ module _ {S K : Type 0} (I : sources.Ghosts S) (G : sinks.Ghosts K) (source sour
     nothing = λ e. ap (λ s. sink_behind s) (p.nothing e);
   }
 
-  evidence_reference : (status : Status) → (status ≡ statuses.Words → ⊥) → JudgesEvidence I (direct G) direct_sends source source' a b status
-      → reference_behind b ≡ reference_behind a
-  evidence_reference statuses.Done known p = EndsWithFlush-reference G a true b (p.output tt).flush
-  evidence_reference statuses.Refused known p = EndsWithFlush-reference G a true b (p.output tt).flush
-  evidence_reference statuses.Words known p = absurd (known refl)
-  evidence_reference statuses.ReadFault known p = ap (λ s. reference_behind s) (p.nothing tt)
-  evidence_reference statuses.WriteFault known p = cut_off_reference G _ a b (p.part refl)
-  evidence_reference statuses.NoMemory known p = ap (λ s. reference_behind s) (p.nothing tt)
-  evidence_reference statuses.TooLong known p = ap (λ s. reference_behind s) (p.nothing tt)
-
   summary_behind : (kind : Kind) (lines start : ℕ) (status : Status) → SumsUp I (direct G) direct_sends source source' a b status kind lines start
       → SumsUp I G no_sends source source' (sink_behind a) (sink_behind b) status kind lines start
   summary_behind kind lines start status p = record {
@@ -115,97 +104,68 @@ module _ {S K : Type 0} (I : sources.Ghosts S) (G : sinks.Ghosts K) (source sour
     nothing = λ e. ((p.nothing e).0, ap (λ s. sink_behind s) (p.nothing e).1);
   }
 
-  summary_reference : (kind : Kind) (lines start : ℕ) (status : Status) → (status ≡ statuses.Words → ⊥)
-      → SumsUp I (direct G) direct_sends source source' a b status kind lines start → reference_behind b ≡ reference_behind a
-  summary_reference kind lines start statuses.Done known p = EndsWithFlush-reference G a true b (p.output tt).1.flush
-  summary_reference kind lines start statuses.Refused known p = EndsWithFlush-reference G a true b (p.output tt).1.flush
-  summary_reference kind lines start statuses.Words known p = absurd (known refl)
-  summary_reference kind lines start statuses.ReadFault known p = ap (λ s. reference_behind s) (p.nothing tt).1
-  summary_reference kind lines start statuses.WriteFault known p = cut_off_reference G (Some (summary kind lines start)) a b (p.part refl)
-  summary_reference kind lines start statuses.NoMemory known p = ap (λ s. reference_behind s) (p.nothing tt).1
-  summary_reference kind lines start statuses.TooLong known p = ap (λ s. reference_behind s) (p.nothing tt).1
+  -- a run that writes one text leaves the sink that it was
+  text_reference : (text : Option (List ℕ)) (status : Status) → (status ≡ statuses.Words → ⊥) → (HasAnswered status → Arrives (direct G) direct_sends text a b)
+      → (status ≡ statuses.WriteFault → IsCutOff (direct G) direct_sends text a b) → (EndsBetweenLines status → b ≡ a) → reference_behind b ≡ reference_behind a
+  text_reference text statuses.Done known output part nothing = EndsWithFlush-reference G a true b (output tt).flush
+  text_reference text statuses.Refused known output part nothing = EndsWithFlush-reference G a true b (output tt).flush
+  text_reference text statuses.Words known output part nothing = absurd (known refl)
+  text_reference text statuses.ReadFault known output part nothing = ap (λ s. reference_behind s) (nothing tt)
+  text_reference text statuses.WriteFault known output part nothing = cut_off_reference G text a b (part refl)
+  text_reference text statuses.NoMemory known output part nothing = ap (λ s. reference_behind s) (nothing tt)
+  text_reference text statuses.TooLong known output part nothing = ap (λ s. reference_behind s) (nothing tt)
 
-  runs_behind : (status : Status) (form : Option Form) → Runs I (direct G) direct_sends source source' a b status form
-      → Runs I G no_sends source source' (sink_behind a) (sink_behind b) status form
-  runs_behind status None p = (p.0, ap (λ s. sink_behind s) p.1)
-  runs_behind status (Some Run) p = script_behind alone status p
-  runs_behind status (Some Check) p = evidence_behind status p
-  runs_behind status (Some (Gen kind lines start)) p = summary_behind kind lines start status p
-
-  runs_unsent : (status : Status) (form : Option Form) → Runs I (direct G) direct_sends source source' a b status form → status ≡ statuses.WriteFault
-      → EndsUnsent I G source source' (sink_behind a) (sink_behind b) form
-  runs_unsent status None p e = tt
-  runs_unsent status (Some Run) p e = script_unsent alone status p e
-  runs_unsent status (Some Check) p e = tt
-  runs_unsent status (Some (Gen kind lines start)) p e = tt
-
-  runs_reference : (status : Status) (form : Option Form) → (status ≡ statuses.Words → form ≡ None) → Runs I (direct G) direct_sends source source' a b status form
-      → reference_behind b ≡ reference_behind a
-  runs_reference status None known p = ap (λ s. reference_behind s) p.1
-  runs_reference status (Some Run) known p = stands_reference alone status p.stands
-  runs_reference status (Some Check) known p = evidence_reference status (λ e. no_form Check (known e)) p
-  runs_reference status (Some (Gen kind lines start)) known p =
-      summary_reference kind lines start status (λ e. no_form (Gen kind lines start) (known e)) p
-
-  module _ (audience : Audience) where
-    by_words_behind : (status : Status) (follow : Bool) (form : Option Form) → RunsBy I (direct G) direct_sends audience source source' a b status follow form
+  -- by the words: of a run that nobody follows, and of one with followers
+  module _ (audience : Audience) (status : Status) where
+    by_words_behind : (follow : Bool) (form : Option Form) → RunsBy I (direct G) direct_sends audience source source' a b status follow form
         → RunsBy I G no_sends audience source source' (sink_behind a) (sink_behind b) status follow form
-    by_words_behind status true form p = script_behind (followed audience) status p
-    by_words_behind status false form p = runs_behind status form p
+    by_words_behind true form p = script_behind (followed audience) status p
+    by_words_behind false None p = (p.0, ap (λ s. sink_behind s) p.1)
+    by_words_behind false (Some Run) p = script_behind alone status p
+    by_words_behind false (Some Check) p = evidence_behind status p
+    by_words_behind false (Some (Gen kind lines start)) p = summary_behind kind lines start status p
 
-    by_words_unsent : (status : Status) (follow : Bool) (form : Option Form) → RunsBy I (direct G) direct_sends audience source source' a b status follow form
+    by_words_unsent : (follow : Bool) (form : Option Form) → RunsBy I (direct G) direct_sends audience source source' a b status follow form
         → status ≡ statuses.WriteFault → EndsUnsentBy I G source source' (sink_behind a) (sink_behind b) audience follow form
-    by_words_unsent status true form p e = script_unsent (followed audience) status p e
-    by_words_unsent status false form p e = runs_unsent status form p e
+    by_words_unsent true form p e = script_unsent (followed audience) status p e
+    by_words_unsent false None p e = tt
+    by_words_unsent false (Some Run) p e = script_unsent alone status p e
+    by_words_unsent false (Some Check) p e = tt
+    by_words_unsent false (Some (Gen kind lines start)) p e = tt
 
-    by_words_reference : (status : Status) (follow : Bool) (form : Option Form) → (status ≡ statuses.Words → (follow ≡ false) × (form ≡ None))
+    by_words_reference : (follow : Bool) (form : Option Form) → (status ≡ statuses.Words → form ≡ None)
         → RunsBy I (direct G) direct_sends audience source source' a b status follow form → reference_behind b ≡ reference_behind a
-    by_words_reference status true form known p = stands_reference (followed audience) status p.stands
-    by_words_reference status false form known p = runs_reference status form (λ e. (known e).1) p
+    by_words_reference true form known p = stands_reference (followed audience) status p.stands
+    by_words_reference false None known p = ap (λ s. reference_behind s) p.1
+    by_words_reference false (Some Run) known p = stands_reference alone status p.stands
+    by_words_reference false (Some Check) known p =
+        text_reference _ status (λ e. no_form Check (known e)) p.output p.part p.nothing
+    by_words_reference false (Some (Gen kind lines start)) known p =
+        text_reference _ status (λ e. no_form (Gen kind lines start) (known e)) (λ e. (p.output e).1) p.part (λ e. (p.nothing e).1)
 
-  -- so the promise that was kept over the outer sink is kept of the one behind it
-  promise_behind : (status : Status) (stands here known unknown : Type 0) → (stands → here)
-      → KeepsPromise I (direct G) source source' a b status stands known unknown
-      → KeepsPromise I G source source' (sink_behind a) (sink_behind b) status here known unknown
-  promise_behind status stands here known unknown so p = record {
-    form = so p.form;
-    words = p.words;
-    too_long = p.too_long;
-    complete = p.complete;
-    source_faults = p.source_faults;
-    sink_faults = p.sink_faults;
-  }
+    -- so the promise that was kept over the outer sink is kept of the one behind it, and that is the sink that it was
+    module _ (follow : Bool) (form : Option Form) (known unknown : Type 0) where
+      pub run_reference : (unknown → form ≡ None)
+          → KeepsPromise I (direct G) source source' a b status (RunsBy I (direct G) direct_sends audience source source' a b status follow form) known unknown
+          → reference_behind b ≡ reference_behind a
+      run_reference none p = by_words_reference follow form (λ e. none (p.words.0 e)) p.form
 
-  module _ (status : Status) (words : List (List ℕ)) (sink sink' : K) (first : sink_behind a ≡ sink) (last : sink' ≡ sink_behind b) where
-    -- what is said of the sinks behind is said of these
-    of_these : (P : K → K → Type 0) → P (sink_behind a) (sink_behind b) → P sink sink'
-    of_these P holds = subst (λ s. P s sink') first (subst (λ s. P (sink_behind a) s) (sym last) holds)
+      module _ (sink sink' : K) (first : sink_behind a ≡ sink) (last : sink' ≡ sink_behind b)
+          (p : KeepsPromise I (direct G) source source' a b status (RunsBy I (direct G) direct_sends audience source source' a b status follow form) known unknown) where
+        -- what is said of the sinks behind is said of these
+        of_these : (P : K → K → Type 0) → P (sink_behind a) (sink_behind b) → P sink sink'
+        of_these P holds = subst (λ s. P s sink') first (subst (λ s. P (sink_behind a) s) (sym last) holds)
 
-    pub alone_behind : RunsAlone I (direct G) direct_sends source source' a b status words → RunsAlone I G no_sends source source' sink sink' status words
-    alone_behind p =
-        of_these (λ s s'. RunsAlone I G no_sends source source' s s' status words) (promise_behind status _ _ _ _ (runs_behind status (form_of words)) p)
+        pub run_behind : KeepsPromise I G source source' sink sink' status (RunsBy I G no_sends audience source source' sink sink' status follow form) known unknown
+        run_behind =
+            of_these (λ s s'. KeepsPromise I G source source' s s' status (RunsBy I G no_sends audience source source' s s' status follow form) known unknown) record {
+              form = by_words_behind follow form p.form;
+              words = p.words;
+              too_long = p.too_long;
+              complete = p.complete;
+              source_faults = p.source_faults;
+              sink_faults = p.sink_faults;
+            }
 
-    pub alone_unsent : RunsAlone I (direct G) direct_sends source source' a b status words → status ≡ statuses.WriteFault
-        → EndsUnsent I G source source' sink sink' (form_of words)
-    alone_unsent p e = of_these (λ s s'. EndsUnsent I G source source' s s' (form_of words)) (runs_unsent status (form_of words) p.form e)
-
-    module _ (audience : Audience) where
-      pub followed_behind : RunsFollowed I (direct G) direct_sends audience source source' a b status words
-          → RunsFollowed I G no_sends audience source source' sink sink' status words
-      followed_behind p =
-          of_these (λ s s'. RunsFollowed I G no_sends audience source source' s s' status words)
-          (promise_behind status _ _ _ _ (by_words_behind audience status (is_follow words) (form_of words)) p)
-
-      pub followed_unsent : RunsFollowed I (direct G) direct_sends audience source source' a b status words → status ≡ statuses.WriteFault
-          → EndsUnsentBy I G source source' sink sink' audience (is_follow words) (form_of words)
-      followed_unsent p e =
-          of_these (λ s s'. EndsUnsentBy I G source source' s s' audience (is_follow words) (form_of words))
-          (by_words_unsent audience status (is_follow words) (form_of words) p.form e)
-
-  pub alone_reference : (status : Status) (words : List (List ℕ)) → RunsAlone I (direct G) direct_sends source source' a b status words
-      → reference_behind b ≡ reference_behind a
-  alone_reference status words p = runs_reference status (form_of words) p.words.0 p.form
-
-  pub followed_reference : (status : Status) (words : List (List ℕ)) (audience : Audience) → RunsFollowed I (direct G) direct_sends audience source source' a b status words
-      → reference_behind b ≡ reference_behind a
-  followed_reference status words audience p = by_words_reference audience status (is_follow words) (form_of words) p.words.0 p.form
+        pub run_unsent : status ≡ statuses.WriteFault → EndsUnsentBy I G source source' sink sink' audience follow form
+        run_unsent e = of_these (λ s s'. EndsUnsentBy I G source source' s s' audience follow form) (by_words_unsent follow form p.form e)

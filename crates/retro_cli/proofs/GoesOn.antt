@@ -1,187 +1,310 @@
--- What holds between two lines of a run, and how one more line keeps it.
-use Rattle.std.proofs.Common.{◌≡◌, ℕ, Bool, true, false, ◌||◌, List, [], ◌∷◌, ◌++◌, length, refl, sym, ap, ◌∙◌, subst, append_assoc, Option, Some, None}
-use Rattle.std.proofs.lemmas.Bool.{le-ltb, lt-ltb}
+-- What holds between two lines of a run, how one more line keeps it, and what stands at the end of the lines and at an error.
+use Rattle.std.proofs.Common.{◌≡◌, ℕ, Bool, true, false, ◌||◌, ◌≤◌, ◌+◌, ◌-◌, List, [], ◌∷◌, ◌++◌, length, take, refl, sym, ap, ◌∙◌, subst, arith, append_assoc, append-nil}
+use Rattle.std.proofs.Common.{length-append, Option, Some, None, Ok, Err, inl, inr}
+use Rattle.std.proofs.Math.Seq.{take-append_seam}
 use Rattle.retro_io.specs.declared.mark.Mark.{Mark}
-use Rattle.retro_io.specs.declared.mark.Mark.TheVariants.{Whole, Long, End}
-use Rattle.retro_io.specs.Lines.{lines, longest_line, StartsWith}
-use Rattle.retro_io.specs.Marks.{GivesNext, GivesNextOf}
-use Rattle.retro_io.specs.Sink.{Appends}
+use Rattle.retro_io.specs.declared.mark.Mark.TheVariants.{End}
+use Rattle.retro_io.specs.declared.mark.ReadError.TheVariants.{ReadFault, TooLong}
+use Rattle.retro_io.specs.declared.source.Source.{Ghosts}
+use Rattle.retro_io.specs.DueReads.{WereDue}
+use Rattle.retro_io.specs.LineLaws.{unbroken-append}
+use Rattle.retro_io.specs.Lines.{lines, has_line_feed, without_return}
+use Rattle.retro_io.specs.Reads.{MakesOf, Took}
+use Rattle.retro_io.specs.Sink.{Appends, AppendsProperPrefix}
 use Rattle.retro_io.specs.SinkLaws.{Appends-append, Appends-none}
+use Rattle.retro_io.specs.Source.{Gives, bytes_left}
+use Rattle.retro_base.specs.Facts.{some_is, some_is_not_none}
 use Rattle.retro_base.specs.LineLength.{is_long}
 use Rattle.workbench.specs.Answers.{bench_after}
-use Rattle.workbench.specs.Bench.{Bench, BenchState, OpenBlock, empty_bench}
-use Rattle.workbench.specs.Reaction.{Reaction, reacts, reacts_to}
-use Rattle.workbench.specs.ReactionLaws.{reacts-first}
+use Rattle.workbench.specs.Bench.{Bench, BenchState, empty_bench}
+use Rattle.workbench.specs.Reaction.{Reaction, closing, reacts}
 use Rattle.followers.specs.Followers.{Reporting}
-use Rattle.retro_cli.specs.Audience.{Audience, Turn, answers, audience_after, followed, follower_at, follows, follows_to, mutes, turn, turn_with}
-use Rattle.retro_cli.specs.Output.{answers_by, refuses_by}
-use Rattle.retro_cli.proofs.Reactions.{answers_by-line, answers_by-none, audience_after-line, bench_after-line, refuses_by-line, refuses_by-none}
-use Rattle.retro_cli.proofs.WholeLines.{AreWhole, are_whole-none, further}
+use Rattle.retro_cli.specs.Audience.{Audience, Turn, audience_after, followed, follower_at, follows, follows_to, mutes, turn, turn_with}
+use Rattle.retro_cli.specs.Events.{report_lines}
+use Rattle.retro_cli.specs.OutOfMemory.{AppendsAnswersToEarlier, IsMetAtLine}
+use Rattle.retro_cli.specs.Output.{answers_by, close_of, has_refusal_by, output_by, refuses_by, up_to_last_feed, whole_by}
+use Rattle.retro_cli.specs.Run.{AppendsAnswersTo, AppendsAnswersToTaken, whole_answers}
+use Rattle.retro_cli.proofs.Prefixes.{prefix_between}
+use Rattle.retro_cli.proofs.ReadSoFar.{IsRead, IsReadSoFar, fewer, lines_ahead, met_at_line, none_gives_none, piece_of, read_on}
+use Rattle.retro_cli.proofs.Reactions.{answers_by-line, answers_by-none, audience_after-line, bench_after-line, refuses_by-line, refuses_by-none, reports_of, whole_from}
+use Rattle.retro_cli.proofs.Reactions.{with_reports-is}
+use Rattle.retro_cli.proofs.Shown.{GivenAs, IsShown, follows_shown, shown_of}
+use Rattle.retro_cli.proofs.WholeLines.{AreWhole, are_whole-none, further, up_to-unbroken}
 
-pub none_is_not_some : {xs : List ℕ} → None ≡ Some xs → ⊥
-none_is_not_some e = cc
+-- a source that told its bytes goes on telling them
+record StillTells (before : List ℕ) (after : Option (List ℕ)) (got : List ℕ) : Type 0 where
+  left : List ℕ
+  is : after ≡ Some left
+  cut : before ≡ got ++ left
 
-pub some_same : {xs ys : List ℕ} (o : Option (List ℕ)) → o ≡ Some xs → o ≡ Some ys → xs ≡ ys
-some_same o e f = cc
-
--- a long line mutes nobody, whatever stands after its first bytes
-long_mutes_none : (bench : Bench) (who : Audience) (line shown : List ℕ) → reacts_to bench line true ≡ reacts_to bench shown true
-    → follows_to bench who line true ≡ follows_to bench who shown true
-long_mutes_none bench who line shown same = elim bench.block as
-    (λ (block : Option OpenBlock). turn who (mutes block line true) (reacts_to bench line true)
-    ≡ turn who (mutes block shown true) (reacts_to bench shown true)) [
-      | None ↦ ap (answers who) same
-      | Some block ↦ ap (answers who) same
-    ]
-
--- The lines given so far are the first ones of the script, and were answered; the others are those of what is left. Some follow the
--- script from its start, and some, maybe fewer, now.
-pub record GoesOn (audience : Audience) (bytes : List ℕ) (first : Option (List ℕ)) (bench : Bench) (now : Audience) (refused ended : Bool) (rest written : Option (List ℕ)) : Type 0 where
-  pub given : List (List ℕ)
-  pub past : List ℕ
-  pub left : List ℕ
-  pub rest_is : rest ≡ Some left
-  pub past_is : bytes ≡ past ++ left
-  pub cut : lines bytes ≡ given ++ lines left
-  pub whole : ended ≡ false → AreWhole past given
-  pub bench_is : bench_after empty_bench given ≡ bench
-  pub audience_is : audience_after empty_bench audience given ≡ now
-  pub appended : Appends first (answers_by (followed audience) given) written
-  pub refusals : refuses_by (followed audience) given ≡ refused
-
--- at the start nothing is answered
-pub goes_on_first : (audience : Audience) (bytes : List ℕ) (ended : Bool) (rest written : Option (List ℕ)) → rest ≡ Some bytes
-    → GoesOn audience bytes written empty_bench audience false ended rest written
-unfolding bench_after audience_after
-goes_on_first audience bytes ended rest written e = record {
-  given = [];
-  past = [];
-  left = bytes;
-  rest_is = e;
-  past_is = refl;
-  cut = refl;
-  whole = λ _. are_whole-none;
-  bench_is = refl;
-  audience_is = refl;
-  appended = rw (answers_by-none audience) (Appends-none written);
-  refusals = refuses_by-none audience;
-}
-
--- after one more line, whose answer was appended
-goes_on_line : (audience : Audience) (bytes : List ℕ) (first : Option (List ℕ)) (bench : Bench) (who : Audience) (refused ended : Bool) (now after line : List ℕ) (written written' : Option (List ℕ))
-    → GoesOn audience bytes first bench who refused false (Some now) written → lines now ≡ line ∷ lines after → StartsWith now line after ended
-    → Appends written (follows bench who line).reaction.answer written'
-    → GoesOn audience bytes first (reacts bench line).bench (follows bench who line).audience (refused || (follows bench who line).reaction.refused) ended (Some after) written'
-goes_on_line audience bytes first bench who refused ended now after line written written' on cut starts appended =
-    let next = further on.past now after on.given line ended (on.whole refl) starts in
-    let same : now ≡ on.left = some_same (Some now) refl on.rest_is in
-    let cut_left : lines on.left ≡ line ∷ lines after = rw same at cut in
-    let turn_is : follows (bench_after empty_bench on.given) (audience_after empty_bench audience on.given) line ≡ follows bench who line =
-    ap (λ b. follows b (audience_after empty_bench audience on.given) line) on.bench_is ∙ ap (λ w. follows bench w line) on.audience_is in
-    let answers : answers_by (followed audience) on.given ++ (follows bench who line).reaction.answer ≡ answers_by (followed audience) (on.given ++ line ∷ []) =
-    sym (answers_by-line audience on.given line ∙ ap (λ (t : Turn). answers_by (followed audience) on.given ++ t.reaction.answer) turn_is) in
-    record {
-      given = on.given ++ line ∷ [];
-      past = next.bytes;
-      left = after;
-      rest_is = refl;
-      past_is = on.past_is ∙ ap (λ xs. on.past ++ xs) (sym same) ∙ next.cut;
-      whole = next.whole;
-      cut = on.cut ∙ ap (λ ls. on.given ++ ls) cut_left ∙ sym (append_assoc on.given (line ∷ []) (lines after));
-      bench_is = bench_after-line empty_bench on.given line ∙ ap (λ b. (reacts b line).bench) on.bench_is;
-      audience_is = audience_after-line audience on.given line ∙ ap (λ (t : Turn). t.audience) turn_is;
-      appended = subst (λ xs. Appends first xs written') answers (Appends-append first written written' _ _ on.appended appended);
-      refusals = refuses_by-line audience on.given line ∙ ap (λ (t : Turn). refuses_by (followed audience) on.given || t.reaction.refused) turn_is
-          ∙ ap (λ b. b || (follows bench who line).reaction.refused) on.refusals;
-    }
-
--- a line is answered as a long one exactly where it is given as one
-abbrev pub GivenAs : Mark → Bool → Type 0
-GivenAs Whole long = long ≡ false
-GivenAs Long long = long ≡ true
-GivenAs End long = ⊥
-
--- the line that was given, of which this is shown
-pub record Gives (long : Bool) (shown : List ℕ) (ended : Bool) (now after : List ℕ) : Type 0 where
-  pub line : List ℕ
-  pub reaction : (bench : Bench) → reacts bench line ≡ reacts_to bench shown long
-  pub turn : (bench : Bench) (who : Audience) → follows bench who line ≡ follows_to bench who shown long
-  pub cut : lines now ≡ line ∷ lines after
-  pub starts : StartsWith now line after ended
-
-pub gives : (mark : Mark) (long : Bool) (shown : List ℕ) (ended : Bool) (now after : List ℕ) → GivenAs mark long → GivesNext mark shown ended now after
-    → Gives long shown ended now after
-gives Whole long shown ended now after as_given next =
-    let short : is_long shown ≡ false = le-ltb longest_line (length shown) next.0 in
-    record {
-      line = shown;
-      reaction = λ bench. rw as_given (ap (reacts_to bench shown) short);
-      turn = λ bench who. rw as_given (ap (follows_to bench who shown) short);
-      cut = next.1;
-      starts = next.2;
-    }
-gives Long long shown ended now after as_given next =
-    let more : is_long next.0 ≡ true = lt-ltb longest_line (length next.0) next.2 in
-    let same : (bench : Bench) → reacts bench next.0 ≡ reacts_to bench shown long =
-    λ bench. reacts-first bench next.0 ∙ rw (as_given, ← next.1) (ap (reacts_to bench shown) more) in
-    record {
-      line = next.0;
-      reaction = same;
-      turn = λ bench who. rw (as_given, more) (long_mutes_none bench who next.0 shown (rw (as_given, more) at same bench));
-      cut = next.3;
-      starts = next.4;
-    }
-gives End long shown ended now after as_given next = absurd as_given
-
-pub goes_on_next : (audience : Audience) (mark : Mark) (long : Bool) (shown : List ℕ) (ended : Bool) (bytes : List ℕ) (first : Option (List ℕ)) (bench : Bench) (who : Audience) (refused : Bool)
-    (rest rest' written written' : Option (List ℕ)) → GivenAs mark long → GivesNextOf mark shown ended rest rest'
-    → GoesOn audience bytes first bench who refused false rest written
-    → Appends written (follows_to bench who shown long).reaction.answer written'
-    → GoesOn audience bytes first (reacts_to bench shown long).bench (follows_to bench who shown long).audience (refused || (follows_to bench who shown long).reaction.refused) ended rest' written'
-goes_on_next audience mark long shown ended bytes first bench who refused None rest' written written' as_given next on appended =
-    absurd (none_is_not_some on.rest_is)
-goes_on_next audience mark long shown ended bytes first bench who refused (Some now) None written written' as_given next on appended = absurd next
-goes_on_next audience mark long shown ended bytes first bench who refused (Some now) (Some after) written written' as_given next on appended =
-    let given = gives mark long shown ended now after as_given next in
-    let same = given.turn bench who in
-    subst (λ (r : Reaction). GoesOn audience bytes first r.bench (follows_to bench who shown long).audience (refused || (follows_to bench who shown long).reaction.refused) ended (Some after) written')
-    (given.reaction bench)
-    (subst (λ (t : Turn). GoesOn audience bytes first (reacts bench given.line).bench t.audience (refused || t.reaction.refused) ended (Some after) written') same
-    (goes_on_line audience bytes first bench who refused ended now after given.line written written' on given.cut given.starts
-    (subst (λ (t : Turn). Appends written t.reaction.answer written') (sym same) appended)))
+still_tells : (before after : Option (List ℕ)) (left got : List ℕ) → before ≡ Some left → Gives before got after → StillTells left after got
+still_tells None after left got is gives = absurd (some_is_not_none (sym is))
+still_tells (Some bytes) None left got is gives = absurd gives
+still_tells (Some bytes) (Some rest) left got is gives =
+    record { left = rest; is = refl; cut = some_is left bytes is ∙ gives }
 
 -- whoever answers, the bench is the one after the line
-turn_bench_at : (who : Audience) (number : ℕ) (at : Option Reporting) (reaction : Reaction) → (turn_with who number at reaction).reaction.bench ≡ reaction.bench
-turn_bench_at who number None reaction = refl
-turn_bench_at who number (Some report) reaction = refl
-
 turn_bench : (who : Audience) (muted : Option ℕ) (reaction : Reaction) → (turn who muted reaction).reaction.bench ≡ reaction.bench
-turn_bench who None reaction = refl
-turn_bench who (Some number) reaction = turn_bench_at who number (follower_at who number) reaction
+turn_bench who muted reaction = grind arith
 
--- the same, by what is known of the answer
-pub goes_on_answered : (audience : Audience) (mark : Mark) (long : Bool) (shown : List ℕ) (ended : Bool) (bytes : List ℕ) (first : Option (List ℕ)) (bench : Bench) (who : Audience) (refused : Bool)
-    (rest rest' written written' : Option (List ℕ)) (state : BenchState) (now : Audience) (own : Bool) → GivenAs mark long → GivesNextOf mark shown ended rest rest'
-    → GoesOn audience bytes first bench who refused false rest written
-    → (state ≡ record { bench = (follows_to bench who shown long).reaction.bench; spent = false }) × (own ≡ (follows_to bench who shown long).reaction.refused)
-    × Appends written (follows_to bench who shown long).reaction.answer written' × (now ≡ (follows_to bench who shown long).audience)
-    → GoesOn audience bytes first state.bench now (refused || own) ended rest' written'
-goes_on_answered audience mark long shown ended bytes first bench who refused rest rest' written written' state now own as_given next on answered =
-    rw (answered.0, answered.1, answered.3)
-    (subst (λ b. GoesOn audience bytes first b (follows_to bench who shown long).audience (refused || (follows_to bench who shown long).reaction.refused) ended rest' written')
-    (sym (turn_bench who (mutes bench.block shown long) (reacts_to bench shown long)))
-    (goes_on_next audience mark long shown ended bytes first bench who refused rest rest' written written' as_given next on answered.2))
+-- who follows from the start, the script, its source at the start, and what was written before
+module _ {S : Type 0} (I : Ghosts S) (audience : Audience) (script : List ℕ) (source : S) (first : Option (List ℕ)) where
+  -- The lines given so far are the first ones of the script, and were answered; the others are those of what is held and of what the source
+  -- has left. Some follow the script from its start, and some, maybe fewer, now.
+  pub record GoesOn (now : S) (held : List ℕ) (ended : Bool) (count : ℕ) (bench : Bench) (who : Audience) (refused : Bool) (written : Option (List ℕ)) : Type 0 where
+    pub given : List (List ℕ)
+    pub past : List ℕ
+    pub left : List ℕ
+    pub left_is : I.left now ≡ Some left
+    pub past_is : script ≡ past ++ (held ++ left)
+    pub cut : lines script ≡ given ++ lines (held ++ left)
+    pub size : length past + length held ≡ count
+    pub whole : ended ≡ false → AreWhole past given
+    pub bench_is : bench_after empty_bench given ≡ bench
+    pub audience_is : audience_after empty_bench audience given ≡ who
+    pub appended : Appends first (answers_by (followed audience) given) written
+    pub refusals : refuses_by (followed audience) given ≡ refused
+    pub so_far : IsReadSoFar I source now script left held
 
--- what holds of a reader that has not come to the end
-pub before_end : (audience : Audience) (script first : Option (List ℕ)) (bench : Bench) (who : Audience) (refused ended : Bool) (rest written : Option (List ℕ)) → ended ≡ false
-    → ((bytes : List ℕ) → script ≡ Some bytes → GoesOn audience bytes first bench who refused ended rest written)
-    → (bytes : List ℕ) → script ≡ Some bytes → GoesOn audience bytes first bench who refused false rest written
-before_end audience script first bench who refused ended rest written e on bytes reported =
-    subst (λ b. GoesOn audience bytes first bench who refused b rest written) e (on bytes reported)
+  -- at the start nothing is answered
+  pub goes_on_first : (held : List ℕ) (ended : Bool) (count : ℕ) → I.left source ≡ Some script → held ≡ [] → count ≡ 0
+      → GoesOn source held ended count empty_bench audience false first
+  unfolding bench_after audience_after
+  goes_on_first held ended count is none unread = rw (none, unread) record {
+    given = [];
+    past = [];
+    left = script;
+    left_is = is;
+    past_is = refl;
+    cut = refl;
+    size = refl;
+    whole = λ _. are_whole-none;
+    bench_is = refl;
+    audience_is = refl;
+    appended = rw (answers_by-none audience) (Appends-none first);
+    refusals = refuses_by-none audience;
+    so_far = inl (refl, refl);
+  }
 
--- and of what waits, which may go on
-pub goes_on_sent : (audience : Audience) (script first : Option (List ℕ)) (bench : Bench) (who : Audience) (refused ended : Bool) (rest written written' : Option (List ℕ)) → written' ≡ written
-    → ((bytes : List ℕ) → script ≡ Some bytes → GoesOn audience bytes first bench who refused ended rest written)
-    → (bytes : List ℕ) → script ≡ Some bytes → GoesOn audience bytes first bench who refused ended rest written'
-goes_on_sent audience script first bench who refused ended rest written written' same on bytes reported =
-    subst (λ w. GoesOn audience bytes first bench who refused ended rest w) (sym same) (on bytes reported)
+  -- after these lines one more was taken, and is not answered yet
+  pub record TakesLine (given : List (List ℕ)) (now : S) (held : List ℕ) (ended : Bool) (count : ℕ) (shown : List ℕ) (long : Bool) : Type 0 where
+    pub line : List ℕ
+    pub past : List ℕ
+    pub left : List ℕ
+    pub left_is : I.left now ≡ Some left
+    pub past_is : script ≡ past ++ (held ++ left)
+    pub cut : lines script ≡ given ++ line ∷ lines (held ++ left)
+    pub size : length past + length held ≡ count
+    pub whole : ended ≡ false → AreWhole past (given ++ line ∷ [])
+    pub is_shown : IsShown long shown line
+    pub met : IsMetAtLine I source now script left given (line ∷ lines (held ++ left))
+    pub read : IsRead I now script left (held ++ left)
+
+  module _ (middle now : S) (held held' shown : List ℕ) (ended : Bool) (count : ℕ) (bench : Bench) (who : Audience) (refused : Bool) (written : Option (List ℕ))
+      (on : GoesOn middle held ended count bench who refused written) where
+    -- what the source has left, after it gave these bytes
+    came : (left got : List ℕ) → on.left ≡ got ++ left → script ≡ (on.past ++ (held ++ got)) ++ left
+    came left got cut =
+        on.past_is ∙ ap (λ xs. on.past ++ xs) (ap (λ xs. held ++ xs) cut ∙ sym (append_assoc held got left)) ∙ sym (append_assoc on.past (held ++ got) left)
+
+    pub takes_line : (mark : Mark) (long ended' closed : Bool) (limit count' : ℕ) → GivenAs mark long → ended ≡ false → count ≤ count'
+        → Took (I.left middle) (I.left now) (count' - count) (λ got. MakesOf (Ok mark) shown ended' held held' got × WereDue I.reads limit held closed middle got now)
+        → (ended' ≡ true → bytes_left (I.left now) ≡ []) → TakesLine on.given now held' ended' count' shown long
+    takes_line mark long ended' closed limit count' as_given unended more took none_left =
+        let after = still_tells (I.left middle) (I.left now) on.left took.got on.left_is took.gives in
+        let piece = piece_of mark long shown ended' (held ++ took.got) held' as_given took.holds.0 in
+        let none : ended' ≡ true → after.left ≡ [] = λ e. sym (ap bytes_left after.is) ∙ none_left e in
+        let come : held ++ on.left ≡ (held ++ took.got) ++ after.left = ap (λ xs. held ++ xs) after.cut ∙ sym (append_assoc held took.got after.left) in
+        let next = further on.past (held ++ took.got) held' on.given mark shown ended' (on.whole unended) piece in
+        let read : IsRead I now script after.left (held ++ on.left) =
+        elim (read_on I source middle now script on.left after.left held on.past took.got limit closed on.so_far on.past_is after.cut took.holds.1) [
+          | inl start ↦ absurd (none_gives_none mark shown ended' (held ++ took.got) held' (rw (start.1, start.2) refl) piece)
+          | inr read ↦ read
+        ] in
+        record {
+          line = without_return piece.piece;
+          past = next.bytes;
+          left = after.left;
+          left_is = after.is;
+          past_is = came after.left took.got after.cut ∙ ap (λ xs. xs ++ after.left) next.cut ∙ append_assoc next.bytes held' after.left;
+          cut = on.cut ∙ ap (λ ls. on.given ++ ls) (ap lines come ∙ lines_ahead mark shown ended' (held ++ took.got) held' after.left piece none);
+          size = omega (
+            arith,
+            on.size,
+            more,
+            took.counts,
+            ap length next.cut,
+            length-append on.past (held ++ took.got),
+            length-append held took.got,
+            length-append next.bytes held',
+          );
+          whole = next.whole;
+          is_shown = shown_of mark long shown (without_return piece.piece) as_given piece.shows;
+          met = met_at_line I source now script on.left after.left held held' on.past took.got shown on.given mark ended' (on.whole unended) on.past_is after.cut read piece;
+          read = record {
+            early = read.early;
+            last = read.last;
+            reads = read.reads;
+            few = omega (arith, read.few, fewer mark shown ended' (held ++ took.got) held' after.left piece, ap length come);
+          };
+        }
+
+    module _ (long ended' : Bool) (count' : ℕ) (taken : TakesLine on.given now held' ended' count' shown long) where
+      turn_is : follows (bench_after empty_bench on.given) (audience_after empty_bench audience on.given) taken.line ≡ follows_to bench who shown long
+      turn_is =
+          ap (λ b. follows b (audience_after empty_bench audience on.given) taken.line) on.bench_is ∙ ap (λ w. follows bench w taken.line) on.audience_is
+          ∙ follows_shown long shown taken.line taken.is_shown bench who
+
+      -- it was answered, and the answer appended
+      pub goes_on_answered : (state : BenchState) (who' : Audience) (own : Bool) (written' : Option (List ℕ))
+          → (state ≡ record { bench = (follows_to bench who shown long).reaction.bench; spent = false }) × (own ≡ (follows_to bench who shown long).reaction.refused)
+          × (who' ≡ (follows_to bench who shown long).audience) → Appends written (follows_to bench who shown long).reaction.answer written'
+          → GoesOn now held' ended' count' state.bench who' (refused || own) written'
+      goes_on_answered state who' own written' answered appended =
+          let before : Bench = bench_after empty_bench on.given in
+          let there : Audience = audience_after empty_bench audience on.given in
+          record {
+            given = on.given ++ taken.line ∷ [];
+            past = taken.past;
+            left = taken.left;
+            left_is = taken.left_is;
+            past_is = taken.past_is;
+            cut = taken.cut ∙ sym (append_assoc on.given (taken.line ∷ []) (lines (held' ++ taken.left)));
+            size = taken.size;
+            whole = taken.whole;
+            bench_is = bench_after-line empty_bench on.given taken.line
+                ∙ sym (turn_bench there (mutes before.block taken.line (is_long taken.line)) (reacts before taken.line))
+                ∙ ap (λ (t : Turn). t.reaction.bench) turn_is ∙ sym (ap (λ (s : BenchState). s.bench) answered.0);
+            audience_is = audience_after-line audience on.given taken.line ∙ ap (λ (t : Turn). t.audience) turn_is ∙ sym answered.2;
+            appended = subst (λ xs. Appends first xs written')
+                (sym (answers_by-line audience on.given taken.line ∙ ap (λ (t : Turn). answers_by (followed audience) on.given ++ t.reaction.answer) turn_is))
+                (Appends-append first written written' _ _ on.appended appended);
+            refusals = refuses_by-line audience on.given taken.line ∙ ap (λ (t : Turn). refuses_by (followed audience) on.given || t.reaction.refused) turn_is
+                ∙ ap (λ b. b || (follows_to bench who shown long).reaction.refused) on.refusals ∙ ap (λ b. refused || b) (sym answered.1);
+            so_far = inr taken.read;
+          }
+
+      -- or a part of the answer, which is a part of the whole
+      pub part_at_line : (written' : Option (List ℕ)) → AppendsProperPrefix written (follows_to bench who shown long).reaction.answer written'
+          → AppendsProperPrefix first (whole_by (followed audience) script) written'
+      part_at_line written' part =
+          let whole = whole_from audience script on.given taken.line (lines (held' ++ taken.left)) taken.cut in
+          prefix_between first written written' (answers_by (followed audience) on.given) _ whole.0 (whole_by (followed audience) script) whole.1 on.appended
+          (subst (λ (t : Turn). AppendsProperPrefix written t.reaction.answer written') (sym turn_is) part)
+
+      -- or memory was short for it
+      pub short_at_line : AppendsAnswersToEarlier I source now script taken.left (followed audience) first written
+      short_at_line = record {
+        answers = record { answered = on.given; unanswered = taken.line ∷ lines (held' ++ taken.left); cut = taken.cut; appended = on.appended };
+        met = inr (inl taken.met);
+      }
+
+    -- at the end all lines are given
+    pub record TakesEnd : Type 0 where
+      pub left : List ℕ
+      pub left_is : I.left now ≡ Some left
+      pub none : left ≡ []
+      pub nothing : held ++ on.left ≡ []
+      pub all : on.given ≡ lines script
+
+    pub takes_end : (has_ended closed : Bool) (limit more : ℕ)
+        → Took (I.left middle) (I.left now) more (λ got. MakesOf (Ok End) shown has_ended held held' got × WereDue I.reads limit held closed middle got now)
+        → (has_ended ≡ true → bytes_left (I.left now) ≡ []) → TakesEnd
+    takes_end has_ended closed limit more took none_left =
+        let after = still_tells (I.left middle) (I.left now) on.left took.got on.left_is took.gives in
+        let none : after.left ≡ [] = sym (ap bytes_left after.is) ∙ none_left took.holds.0.2 in
+        let nothing : held ++ on.left ≡ [] =
+        ap (λ xs. held ++ xs) after.cut ∙ sym (append_assoc held took.got after.left) ∙ ap (λ xs. xs ++ after.left) took.holds.0.0 ∙ none in
+        record {
+          left = after.left;
+          left_is = after.is;
+          none = none;
+          nothing = nothing;
+          all = sym (on.cut ∙ ap (λ xs. on.given ++ lines xs) nothing ∙ append-nil on.given);
+        }
+
+    module _ (ends : TakesEnd) where
+      close : closing bench ≡ close_of (lines script)
+      close = ap closing (sym on.bench_is) ∙ ap close_of ends.all
+
+      all_appended : Appends first (answers_by (followed audience) (lines script)) written
+      all_appended = subst (λ ls. Appends first (answers_by (followed audience) ls) written) ends.all on.appended
+
+      -- then the answer of the close is appended
+      pub output_at_end : (written' : Option (List ℕ)) → Appends written (closing bench).answer written' → Appends first (output_by (followed audience) script) written'
+      output_at_end written' appended =
+          Appends-append first written written' (answers_by (followed audience) (lines script)) _ all_appended
+          (subst (λ (r : Reaction). Appends written r.answer written') close appended)
+
+      pub refusal_at_end : (refused || (closing bench).refused) ≡ has_refusal_by (followed audience) script
+      refusal_at_end =
+          ap (λ b. b || (closing bench).refused) (sym on.refusals) ∙ ap (λ ls. refuses_by (followed audience) ls || (closing bench).refused) ends.all
+          ∙ ap (λ (r : Reaction). refuses_by (followed audience) (lines script) || r.refused) close
+
+      -- and those who follow now have followed the whole script
+      pub heard_at_end : who ≡ audience_after empty_bench audience (lines script)
+      heard_at_end = sym on.audience_is ∙ ap (audience_after empty_bench audience) ends.all
+
+      -- or a part of that answer is
+      pub part_at_end : (written' : Option (List ℕ)) → AppendsProperPrefix written (closing bench).answer written'
+          → AppendsProperPrefix first (whole_by (followed audience) script) written'
+      part_at_end written' part =
+          prefix_between first written written' (answers_by (followed audience) (lines script)) (close_of (lines script)).answer (report_lines 0 (reports_of audience script))
+          (whole_by (followed audience) script) (with_reports-is (output_by (followed audience) script) (reports_of audience script)) all_appended
+          (subst (λ (r : Reaction). AppendsProperPrefix written r.answer written') close part)
+
+      -- or memory was short for it
+      pub short_at_end : I.ended now ≡ true → AppendsAnswersToEarlier I source now script ends.left (followed audience) first written
+      short_at_end ended_now = record {
+        answers = record { answered = on.given; unanswered = lines (held ++ on.left); cut = on.cut; appended = on.appended };
+        met = inr (inr (ended_now, ends.none, ap lines ends.nothing));
+      }
+
+    module _ (ended' closed : Bool) (limit count' : ℕ) (unended : ended ≡ false) (unbroken : has_line_feed held ≡ false) where
+      -- at a read that failed all is answered whose line feed was taken
+      pub taken_at_fault : Took (I.left middle) (I.left now) (count' - count) (λ got. MakesOf (Err ReadFault) shown ended' held held' got × WereDue I.reads limit held closed middle got now)
+          → (rest : List ℕ) × (I.left now ≡ Some rest) × AppendsAnswersToTaken (followed audience) script rest first written
+      taken_at_fault took =
+          let after = still_tells (I.left middle) (I.left now) on.left took.got on.left_is took.gives in
+          let given : lines (up_to_last_feed (on.past ++ (held ++ took.got))) ≡ on.given =
+          up_to-unbroken on.past (held ++ took.got) on.given (on.whole unended) (unbroken-append held took.got unbroken took.holds.0) in (
+            after.left,
+            after.is,
+            record {
+              taken = on.past ++ (held ++ took.got);
+              cut = came after.left took.got after.cut;
+              appended = subst (λ ls. Appends first (answers_by (followed audience) ls) written) (sym given) on.appended;
+            },
+          )
+
+      -- at a script that is too long all is answered that ends within the limit
+      pub first_at_limit : (most : ℕ) → count ≤ count' → count' ≡ most + 1
+          → Took (I.left middle) (I.left now) (count' - count) (λ got. MakesOf (Err TooLong) shown ended' held held' got × WereDue I.reads limit held closed middle got now)
+          → Appends first (whole_answers (followed audience) (take most script)) written
+      first_at_limit most more over took =
+          let after = still_tells (I.left middle) (I.left now) on.left took.got on.left_is took.gives in
+          let prefix = took.holds.0.0 in
+          let last = took.holds.0.1 in
+          let bytes = on.past ++ (held ++ prefix) in
+          let most_is : most ≡ length bytes =
+          omega (
+            arith,
+            on.size,
+            more,
+            over,
+            took.counts,
+            ap length took.holds.0.2,
+            length-append prefix (last ∷ []),
+            length-append on.past (held ++ prefix),
+            length-append held prefix,
+          ) in
+          let script_is : script ≡ bytes ++ last ∷ after.left =
+          came after.left took.got after.cut ∙ ap (λ xs. (on.past ++ (held ++ xs)) ++ after.left) took.holds.0.2
+          ∙ ap (λ xs. xs ++ after.left) (ap (λ xs. on.past ++ xs) (sym (append_assoc held prefix (last ∷ []))) ∙ sym (append_assoc on.past (held ++ prefix) (last ∷ [])))
+          ∙ append_assoc bytes (last ∷ []) after.left in
+          let first_are : take most script ≡ bytes =
+          ap (λ n. take n script) most_is ∙ ap (take (length bytes)) script_is ∙ take-append_seam bytes (last ∷ after.left) in
+          let given : lines (up_to_last_feed (take most script)) ≡ on.given =
+          ap (λ xs. lines (up_to_last_feed xs)) first_are
+          ∙ up_to-unbroken on.past (held ++ prefix) on.given (on.whole unended) (unbroken-append held prefix unbroken took.holds.0.3) in
+          subst (λ ls. Appends first (answers_by (followed audience) ls) written) (sym given) on.appended

@@ -1,4 +1,4 @@
--- Followers that are handed the events of an answer, line by line.
+-- Followers under their numbers, and what becomes of them where they are handed the events of an answer, line by line.
 use Rattle.std.proofs.Common.{◌≡◌, ℕ, zero, suc, ◌<◌, ◌≤◌, List, [], ◌∷◌, ◌++◌, length, get_or, set, map, take, drop, refl, sym, ap, ◌∙◌, arith, append_assoc, Option, Some, None}
 use Rattle.std.specs.Prelude.{option_map}
 use Rattle.std.specs.List.{cons_option}
@@ -8,18 +8,13 @@ use Rattle.evidence.specs.declared.evidence.Evidence.{Evidence}
 use Rattle.evidence.specs.Reading.{evidence_of}
 use Rattle.retro_io.specs.Lines.{lines}
 use Rattle.followers.specs.Followers.{HasTaken, Reporting}
-use Rattle.retro_cli.specs.Audience.{Audience, after_events, hears}
+use Rattle.retro_cli.specs.Audience.{Audience, after_events, hears, follower_at, without}
 use Rattle.retro_cli.specs.Events.{events_among, events_spelled}
 use Rattle.followers.specs.TakenLaws.{first_same, others_same}
 
--- a follower that has taken an event reports as it then does
-pub taken_is : (event : Evidence) (before after : Reporting) → HasTaken event before after → after ≡ after_events (event ∷ []) before
-taken_is event before after taken = fun_ext taken
-
 -- no events change nothing
 heard_none : (follower : Option Reporting) → option_map (after_events []) follower ≡ follower
-heard_none None = refl
-heard_none (Some report) = refl
+heard_none follower = grind arith
 
 pub hears-none : (audience : Audience) → hears [] audience ≡ audience
 hears-none [] = refl
@@ -40,8 +35,7 @@ abbrev pub HandsOn : List ℕ → List ℕ → Audience → Audience → Type 0
 HandsOn answer rest before now = hears (events_among rest) now ≡ hears (events_among answer) before
 
 cons-events : (event : Option Evidence) (more : List Evidence) → cons_option event more ≡ cons_option event [] ++ more
-cons-events None more = refl
-cons-events (Some event) more = refl
+cons-events event more = grind arith
 
 pub hands_on_line : (answer rest after line : List ℕ) (before now next : Audience) → HandsOn answer rest before now → lines rest ≡ line ∷ lines after
     → next ≡ hears (events_spelled (line ∷ [])) now → HandsOn answer after before next
@@ -76,3 +70,25 @@ module _ {F : Type 0} (seen : F → Option Reporting) (event : Evidence) where
   -- all have taken it
   pub all_taken : (i : ℕ) (before now : List F) → HaveTaken (take i before) (take i now) → length before ≤ i → length now ≤ i → HaveTaken before now
   all_taken i before now taken most most' = sym (ap (map seen) (take_all i now most')) ∙ taken ∙ ap (λ fs. map heard (map seen fs)) (take_all i before most)
+
+module _ {F : Type 0} (seen : F → Option Reporting) where
+  pub there : (followers : List F) (number : ℕ) (follower : F) → number < length followers → follower ≡ get_or followers number follower
+      → follower_at (map seen followers) number ≡ seen follower
+  there [] number follower within is = absurd (omega arith)
+  there (first ∷ others) zero follower within is = ap seen (sym is)
+  there (first ∷ others) (suc number) follower within is = there others number follower (omega arith) is
+
+  pub past_all : (followers : List F) (number : ℕ) → length followers ≤ number → follower_at (map seen followers) number ≡ None
+  past_all [] number past = refl
+  past_all (first ∷ others) zero past = absurd (omega arith)
+  past_all (first ∷ others) (suc number) past = past_all others number (omega arith)
+
+  pub let_go : (followers : List F) (number : ℕ) (gone : F) → seen gone ≡ None → map seen (set followers number gone) ≡ without (map seen followers) number
+  let_go [] number gone is = refl
+  let_go (first ∷ others) zero gone is = ap (λ f. f ∷ map seen others) is
+  let_go (first ∷ others) (suc number) gone is = ap (λ fs. seen first ∷ fs) (let_go others number gone is)
+
+  pub none_to_let_go : (followers : List F) (number : ℕ) → length followers ≤ number → map seen followers ≡ without (map seen followers) number
+  none_to_let_go [] number past = refl
+  none_to_let_go (first ∷ others) zero past = absurd (omega arith)
+  none_to_let_go (first ∷ others) (suc number) past = ap (λ fs. seen first ∷ fs) (none_to_let_go others number (omega arith))

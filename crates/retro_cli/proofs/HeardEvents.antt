@@ -17,11 +17,10 @@ use Rattle.workbench.specs.Outcome.{refusal_text, reply_text}
 use Rattle.workbench.specs.Reaction.{Reaction, happens, outside, reacts, spelled}
 use Rattle.retro_cli.specs.Audience.{Audience, after_events, audience_after, follower_at, follows, hears, mutes, number_muted, turn, turn_with, without}
 use Rattle.retro_cli.specs.Events.{events, events_among, events_spelled}
-use Rattle.retro_cli.specs.HeardEvents.{HasHeard, MirrorsReportThePresent, WhoIsLeftHasHeardAll}
-use Rattle.retro_cli.specs.Mirrored.{ChangesAloneHoldThePresent}
-use Rattle.retro_cli.proofs.Muted.{spells_mute}
-use Rattle.retro_cli.proofs.accepted.Passing.{begins_other}
-use Rattle.retro_cli.proofs.accepted.Printable.{refusal_printable}
+use Rattle.retro_cli.specs.Mirrored.{ChangesAloneHoldThePresent, HasHeard, MirrorsReportThePresent, WhoIsLeftHasHeardAll}
+use Rattle.retro_base.specs.Facts.{one_value}
+use Rattle.retro_cli.proofs.Muted.{refuses_mute}
+use Rattle.retro_cli.proofs.accepted.Printable.{refusal_line}
 use Rattle.retro_cli.proofs.accepted.ReadLines.{line_alone, no_event}
 use Rattle.retro_cli.proofs.accepted.Script.{events_from}
 
@@ -29,17 +28,12 @@ use Rattle.retro_cli.proofs.accepted.Script.{events_from}
 refusal_is_silent : (number : ℕ) → events_among (reply_text (Refused (refusals.NoFollower number))) ≡ []
 refusal_is_silent number =
     let text : List ℕ = refusal_text (refusals.NoFollower number) in
-    ap events_spelled (line_alone text (refusal_printable (refusals.NoFollower number) tt))
-    ∙ ap (λ event. cons_option event []) (no_event text (begins_other (refusals.NoFollower number)))
-
-outside_is_silent : (timelines : List NamedTimeline) (line : Result Command LineError) (number : ℕ) → number_muted line ≡ Some number
-    → events_among (reply_text (outside timelines line).outcome) ≡ []
-outside_is_silent timelines line number is = rw (spells_mute line number is) (refusal_is_silent number)
+    let line = refusal_line (refusals.NoFollower number) tt in
+    ap events_spelled (line_alone text line.0) ∙ ap (λ event. cons_option event []) (no_event text line.1)
 
 is_silent : (timelines : List NamedTimeline) (block : Option OpenBlock) (bytes : List ℕ) (long : Bool) (number : ℕ) → mutes block bytes long ≡ Some number
     → events_among (reply_text (happens timelines block bytes long).outcome) ≡ []
-is_silent timelines None bytes long number is = outside_is_silent timelines (spelled bytes long) number is
-is_silent timelines (Some block) bytes long number is = absurd (cc)
+is_silent timelines block bytes long number is = rw (refuses_mute timelines block bytes long number is) (refusal_is_silent number)
 
 -- each of those who have heard events was there before
 heard_at : (heard : List Evidence) (audience : Audience) (number : ℕ) (report : Reporting) → follower_at (hears heard audience) number ≡ Some report
@@ -99,12 +93,9 @@ heard_from (line ∷ script) bench audience number report is =
 pub all_is_heard : WhoIsLeftHasHeardAll
 all_is_heard script audience number report is = heard_from script empty_bench audience number report is
 
-same_report : (one other : Reporting) → Some one ≡ Some other → one ≡ other
-same_report one other is = cc
-
 pub mirrors_report : ChangesAloneHoldThePresent → MirrorsReportThePresent
 mirrors_report holds script audience number name report mirrors left =
     let heard : HasHeard (events script) audience number report = all_is_heard script audience number report left in
-    let first : heard.first ≡ (λ seen. mirror_text name (held name seen)) = same_report heard.first (λ seen. mirror_text name (held name seen)) (sym heard.there ∙ mirrors) in
+    let first : heard.first ≡ (λ seen. mirror_text name (held name seen)) = one_value (follower_at audience number) heard.first (λ seen. mirror_text name (held name seen)) heard.there mirrors in
     ap (λ r. r []) (heard.since ∙ ap (after_events (events script)) first) ∙ ap (λ seen. mirror_text name (held name seen)) (append-nil (events script))
     ∙ ap (mirror_text name) (holds script name)

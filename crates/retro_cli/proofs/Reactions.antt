@@ -30,8 +30,7 @@ texts-append first more =
 
 -- where nobody follows, the bench alone answers
 nobody_mutes : (muted : Option ℕ) (reaction : Reaction) → turn [] muted reaction ≡ record { reaction = reaction; audience = [] }
-nobody_mutes None reaction = refl
-nobody_mutes (Some number) reaction = refl
+nobody_mutes muted reaction = grind arith
 
 alone_from : (bench : Bench) (first : List (List ℕ)) → followed_from bench [] first ≡ reactions bench first
 unfolding followed_from reactions
@@ -54,8 +53,7 @@ nobody_follows =
 
 -- where there are no reports, nothing is appended for them
 pub with_reports-is : (text : List ℕ) (reports : List (Option (List ℕ))) → with_reports text reports ≡ text ++ report_lines 0 reports
-with_reports-is text [] = sym (append-nil text)
-with_reports-is text (report ∷ reports) = refl
+with_reports-is text reports = grind (arith, append-nil)
 
 -- the bench that one more line leaves
 pub bench_after-line : (bench : Bench) (first : List (List ℕ)) (line : List ℕ) → bench_after bench (first ++ line ∷ []) ≡ (reacts (bench_after bench first) line).bench
@@ -89,24 +87,14 @@ module _ (audience : Audience) where
   abbrev pub next_reaction : List (List ℕ) → List ℕ → Reaction
   next_reaction first line = (follows (bench_of first) (audience_at first) line).reaction
 
-  -- the reactions to others after it
-  abbrev after_next : List (List ℕ) → List ℕ → List (List ℕ) → List Reaction
-  after_next first line more = followed_from (reacts (bench_of first) line).bench (follows (bench_of first) (audience_at first) line).audience more
-
   pub audience_after-line : (first : List (List ℕ)) (line : List ℕ) → audience_at (first ++ line ∷ []) ≡ (follows (bench_of first) (audience_at first) line).audience
   audience_after-line first line = audience_after-from empty_bench audience first line
 
-  -- first some lines are answered, and then one more, and then others
-  answers_from : (first : List (List ℕ)) (line : List ℕ) (more : List (List ℕ)) → answers_by (followed audience) (first ++ line ∷ more)
-      ≡ (answers_by (followed audience) first ++ (next_reaction first line).answer) ++ texts (after_next first line more)
-  unfolding followed_from
-  answers_from first line more =
-      ap texts (followed-append empty_bench audience first (line ∷ more)) ∙ texts-append (followed_from empty_bench audience first) (followed_from (bench_of first) (audience_at first) (line ∷ more))
-      ∙ sym (append_assoc (answers_by (followed audience) first) (next_reaction first line).answer _)
-
   pub answers_by-line : (first : List (List ℕ)) (line : List ℕ) → answers_by (followed audience) (first ++ line ∷ []) ≡ answers_by (followed audience) first ++ (next_reaction first line).answer
   unfolding followed_from
-  answers_by-line first line = answers_from first line [] ∙ append-nil (answers_by (followed audience) first ++ (next_reaction first line).answer)
+  answers_by-line first line =
+      ap texts (followed-append empty_bench audience first (line ∷ [])) ∙ texts-append (followed_from empty_bench audience first) (next_reaction first line ∷ [])
+      ∙ ap (λ xs. answers_by (followed audience) first ++ xs) (append-nil (next_reaction first line).answer)
 
   pub answers_by-none : answers_by (followed audience) [] ≡ []
   unfolding followed_from
@@ -146,28 +134,9 @@ module _ (audience : Audience) where
         ∙ append_assoc (answers_by (followed audience) first) _ _,
   )
 
-  -- and then one more
-  output_from : (bytes : List ℕ) (first : List (List ℕ)) (line : List ℕ) (more : List (List ℕ)) → lines bytes ≡ first ++ line ∷ more
-      → output_by (followed audience) bytes ≡ (answers_by (followed audience) first ++ (next_reaction first line).answer)
-      ++ (texts (after_next first line more) ++ (close_of (lines bytes)).answer)
-  output_from bytes first line more cut =
-      ap (λ xs. xs ++ (close_of (lines bytes)).answer) (ap (answers_by (followed audience)) cut ∙ answers_from first line more)
-      ∙ append_assoc (answers_by (followed audience) first ++ (next_reaction first line).answer) _ _
-
+  -- and where one more is
   pub whole_from : (bytes : List ℕ) (first : List (List ℕ)) (line : List ℕ) (more : List (List ℕ)) → lines bytes ≡ first ++ line ∷ more
       → (later : List ℕ) × (whole_by (followed audience) bytes ≡ (answers_by (followed audience) first ++ (next_reaction first line).answer) ++ later)
-  whole_from bytes first line more cut = (
-    (texts (after_next first line more) ++ (close_of (lines bytes)).answer) ++ report_lines 0 (reports_of bytes),
-    with_reports-is (output_by (followed audience) bytes) (reports_of bytes) ∙ ap (λ xs. xs ++ report_lines 0 (reports_of bytes)) (output_from bytes first line more cut)
-        ∙ append_assoc (answers_by (followed audience) first ++ (next_reaction first line).answer) _ _,
-  )
-
--- a prefix that is not the whole is one of all but the last
-pub before_last : (all prefix rest : List ℕ) → all ≡ prefix ++ rest → 0 < length rest
-    → without_last all ≡ prefix ++ drop (length prefix) (without_last all)
-before_last all prefix rest whole some =
-    let size : length all ≡ length prefix + length rest = ap length whole ∙ length-append prefix rest in
-    let same : take (length prefix) all ≡ prefix =
-    ap (take (length prefix)) whole ∙ take-append_seam prefix rest in
-    sym (take-append-drop (length prefix) (without_last all))
-    ∙ ap (λ xs. xs ++ drop (length prefix) (without_last all)) (take-take (length prefix) (length all - 1) all (omega arith) ∙ same)
+  whole_from bytes first line more cut =
+      let whole = whole_after bytes (first ++ line ∷ []) more (cut ∙ sym (append_assoc first (line ∷ []) more)) in
+      (whole.0, whole.1 ∙ ap (λ xs. xs ++ whole.0) (answers_by-line first line))

@@ -1,5 +1,6 @@
 -- What the reads of a run gave, and where it stands when it meets out of memory.
-use Rattle.std.proofs.Common.{◌≡◌, ◌⊎◌, ℕ, ◌+◌, ◌≤◌, Bool, true, false, List, [], ◌∷◌, ◌++◌, length, take, drop, refl, sym, ap, ◌∙◌, subst, arith, append_assoc, append-nil, length-append, Result, inl, inr}
+use Rattle.std.proofs.Common.{◌≡◌, ◌⊎◌, ℕ, ◌+◌, ◌≤◌, Bool, true, false, List, [], ◌∷◌, ◌++◌, length, take, drop, refl, sym, ap, ◌∙◌, subst, arith, append_assoc, append-nil}
+use Rattle.std.proofs.Common.{length-append, Result, inl, inr}
 use Rattle.std.proofs.lemmas.List.{append_cancel_right, take-append-drop, take-append-le, take_at}
 use Rattle.retro_io.specs.declared.mark.Mark.{Mark}
 use Rattle.retro_io.specs.declared.mark.Mark.TheVariants.{Whole, Long, End}
@@ -10,9 +11,8 @@ use Rattle.retro_io.specs.Lines.{lines, has_line_feed, line_feed, without_return
 use Rattle.retro_io.specs.Reads.{GivesFirst, GivesPiece}
 use Rattle.retro_cli.specs.OutOfMemory.{IsLastRead, IsMetAtLine}
 use Rattle.retro_cli.specs.Output.{up_to_last_feed}
-use Rattle.retro_cli.proofs.GoesOn.{GivenAs}
-use Rattle.retro_cli.proofs.UpToLastFeed.{up_to-few, up_to-lines, up_to-starts}
-use Rattle.retro_cli.proofs.WholeLines.{AreWhole}
+use Rattle.retro_cli.proofs.Shown.{GivenAs}
+use Rattle.retro_cli.proofs.WholeLines.{up_to-few, up_to-lines, up_to-starts, AreWhole}
 
 -- the last of some reads: none of the bytes before it ended a line
 record IsLastOf {S E : Type 0} (reads : S → ℕ → Result (List ℕ) E → S → Type 0) (held got : List ℕ) (after : S) : Type 0 where
@@ -72,7 +72,7 @@ read_on I source middle after script left left' held past got limit closed so_fa
     ]
 
 -- the line of a piece is the first one of all that comes
-lines_ahead : (mark : Mark) (shown : List ℕ) (ended : Bool) (bytes after left : List ℕ) (p : GivesPiece mark shown ended bytes after)
+pub lines_ahead : (mark : Mark) (shown : List ℕ) (ended : Bool) (bytes after left : List ℕ) (p : GivesPiece mark shown ended bytes after)
     → (ended ≡ true → left ≡ []) → lines (bytes ++ left) ≡ without_return p.piece ∷ lines (after ++ left)
 lines_ahead mark shown ended bytes after left p none = elim p.cut [
   | inl e ↦ ap (λ xs. lines (xs ++ left)) e ∙ ap lines (append_assoc p.piece (line_feed ∷ after) left) ∙ lines-cut p.piece (after ++ left) p.unbroken
@@ -125,9 +125,8 @@ early_given past rest early more script given whole cut cut_early few =
 -- at a line that was given, after all lines before it were answered
 pub met_at_line : {S : Type 0} (I : Ghosts S) (source after : S) (script left left' held held' past got shown : List ℕ) (given : List (List ℕ)) (mark : Mark) (ended : Bool)
     → AreWhole past given → script ≡ past ++ (held ++ left) → left ≡ got ++ left' → IsRead I after script left' (held ++ left)
-    → GivesPiece mark shown ended (held ++ got) held' → (ended ≡ true → left' ≡ [])
-    → IsMetAtLine I source after script left' given (lines (held ++ left))
-met_at_line I source after script left left' held held' past got shown given mark ended whole cut came read piece none =
+    → (piece : GivesPiece mark shown ended (held ++ got) held') → IsMetAtLine I source after script left' given (without_return piece.piece ∷ lines (held' ++ left'))
+met_at_line I source after script left left' held held' past got shown given mark ended whole cut came read piece =
     let from_came : held ++ left ≡ (held ++ got) ++ left' = ap (λ xs. held ++ xs) came ∙ sym (append_assoc held got left') in
     let taken : read.early ++ read.last ≡ past ++ (held ++ got) =
     append_cancel_right (read.early ++ read.last) (past ++ (held ++ got)) left'
@@ -144,7 +143,7 @@ met_at_line I source after script left left' held held' past got shown given mar
       taken = ap lines taken ∙ whole.parts (held ++ got) ∙ ap (λ ls. given ++ ls)
           (ap lines (sym (append-nil (held ++ got))) ∙ ahead ∙ ap (λ xs. without_return piece.piece ∷ lines xs) (append-nil held'));
       unread = lines (held' ++ left');
-      next = ap lines from_came ∙ lines_ahead mark shown ended (held ++ got) held' left' piece none;
+      next = refl;
       later = early.0;
       early_answered = early.1;
     }

@@ -43,11 +43,7 @@ name_short name named =
     leb-true (length name) longest_name (and_parts (starts_with_letter name) (nat_le (length name) longest_name) second.0).1
 
 kind_short : (kind : Kind) → length (kind_text kind) ≤ 5
-kind_short Queue = omega arith
-kind_short Stack = omega arith
-kind_short Deque = omega arith
-kind_short Dict = omega arith
-kind_short Pq = omega arith
+kind_short kind = grind arith
 
 number_short : (n : ℕ) → n ≤ next_limit → length (decimal n) ≤ 8
 number_short n small = length-decimal-le 8 n (omega arith) (omega arith) (omega arith)
@@ -60,21 +56,7 @@ value_short (pos n) small = length_signed_le 19 (pos n) (omega arith) small
 value_short (negsuc n) small = length_signed_le 19 (negsuc n) (omega arith) small
 
 op_short : (op : Op) → HasValues op → length (op_text op) ≤ 45
-op_short (Enq v) of = let short = value_short v of in omega arith
-op_short Deq of = omega arith
-op_short (Push v) of = let short = value_short v of in omega arith
-op_short Pop of = omega arith
-op_short (PushL v) of = let short = value_short v of in omega arith
-op_short (PushR v) of = let short = value_short v of in omega arith
-op_short PopL of = omega arith
-op_short PopR of = omega arith
-op_short (Put key v) of =
-    let of_key = value_short key of.0 in
-    let of_value = value_short v of.1 in
-    simp length-append (omega arith)
-op_short (Del key) of = let short = value_short key of in omega arith
-op_short (Ins key) of = let short = value_short key of in omega arith
-op_short DelMin of = omega arith
+op_short op of = grind (arith, value_short, length-append)
 
 header_short : (name : List ℕ) (kind : Kind) (next count : ℕ) → is_name name ≡ true → next ≤ next_limit → count ≤ most_rows
     → length (header_text name kind next count) ≤ longest_line

@@ -14,8 +14,7 @@ use Rattle.retro_cli.specs.declared.stop.Stop.TheVariants as stops
 use Rattle.retro_cli.specs.Delivery.{IsCutOff, StandsAt}
 use Rattle.retro_cli.specs.Judging.{is_refusal, judged_output, judgement_of}
 use Rattle.retro_cli.specs.Program.{JudgesEvidence, SumsUp}
-use Rattle.retro_cli.specs.Causes.{HasCause}
-use Rattle.retro_cli.specs.Promise.{KeepsPromise}
+use Rattle.retro_cli.specs.Promise.{HasCause, KeepsPromise}
 use Rattle.retro_cli.specs.Run.{EndsBetweenLines, EndsWithoutFault, HasAnswered, MayBeTooLong, is_read_fault, is_write_fault, status_of}
 use Rattle.retro_cli.specs.Stop.{status_after, stops_at_read, stops_at_write}
 use Rattle.retro_cli.specs.Summary.{summary}
@@ -28,45 +27,24 @@ abbrev pub ended_at : Stop → Outcome
 ended_at stop = Err stop
 
 read_fault_is : (outcome : Outcome) → is_read_fault (status_after outcome) ≡ stops_at_read outcome
-read_fault_is (Ok false) = refl
-read_fault_is (Ok true) = refl
-read_fault_is (Err stops.ReadFault) = refl
-read_fault_is (Err stops.WriteFault) = refl
-read_fault_is (Err stops.NoMemory) = refl
-read_fault_is (Err stops.TooLong) = refl
+read_fault_is outcome = grind arith
 
-pub write_fault_is : (outcome : Outcome) → is_write_fault (status_after outcome) ≡ stops_at_write outcome
-write_fault_is (Ok false) = refl
-write_fault_is (Ok true) = refl
-write_fault_is (Err stops.ReadFault) = refl
-write_fault_is (Err stops.WriteFault) = refl
-write_fault_is (Err stops.NoMemory) = refl
-write_fault_is (Err stops.TooLong) = refl
+write_fault_is : (outcome : Outcome) → is_write_fault (status_after outcome) ≡ stops_at_write outcome
+write_fault_is outcome = grind arith
 
 -- an end at an input that is too long is reported so, and no other one
 too_long_is : (outcome : Outcome) → (status_after outcome ≡ statuses.TooLong) ↔ (outcome ≡ ended_at stops.TooLong)
-too_long_is (Ok false) = (λ e. cc, λ e. cc)
-too_long_is (Ok true) = (λ e. cc, λ e. cc)
-too_long_is (Err stops.ReadFault) = (λ e. cc, λ e. cc)
-too_long_is (Err stops.WriteFault) = (λ e. cc, λ e. cc)
-too_long_is (Err stops.NoMemory) = (λ e. cc, λ e. cc)
-too_long_is (Err stops.TooLong) = (λ e. refl, λ e. refl)
+too_long_is outcome = (λ e. grind arith, λ e. grind arith)
 
 -- no run ends as words of no form do
 never_words : (outcome : Outcome) → status_after outcome ≡ statuses.Words → ⊥
-never_words (Ok false) e = cc
-never_words (Ok true) e = cc
-never_words (Err stops.ReadFault) e = cc
-never_words (Err stops.WriteFault) e = cc
-never_words (Err stops.NoMemory) e = cc
-never_words (Err stops.TooLong) e = cc
+never_words outcome e = grind arith
 
 -- without a fault
 ends_without_fault : (script : Option (List ℕ)) (outcome : Outcome) (reads reads' writes writes' : ℕ)
     → CountsFaults (stops_at_read outcome) reads reads' → CountsFaults (stops_at_write outcome) writes writes' → (outcome ≡ ended_at stops.TooLong → MayBeTooLong script)
     → (HasRisen reads reads' → ⊥) → (HasRisen writes writes' → ⊥) → EndsWithoutFault script (status_after outcome)
-ends_without_fault script (Ok false) reads reads' writes writes' of_reads of_writes longer no_read no_write = tt
-ends_without_fault script (Ok true) reads reads' writes writes' of_reads of_writes longer no_read no_write = tt
+ends_without_fault script (Ok refused) reads reads' writes writes' of_reads of_writes longer no_read no_write = grind arith
 ends_without_fault script (Err stops.ReadFault) reads reads' writes writes' of_reads of_writes longer no_read no_write = absurd (no_read of_reads.1)
 ends_without_fault script (Err stops.WriteFault) reads reads' writes writes' of_reads of_writes longer no_read no_write = absurd (no_write of_writes.1)
 ends_without_fault script (Err stops.NoMemory) reads reads' writes writes' of_reads of_writes longer no_read no_write = tt

@@ -16,8 +16,7 @@ abbrev count : List Reaction → ℕ
 count made = length (filter (λ (reaction : Reaction). reaction.refused) made)
 
 first_counts : (reaction : Reaction) (others : List Reaction) (refused : Bool) → reaction.refused ≡ refused → count (reaction ∷ others) ≡ one_if refused + count others
-first_counts reaction others true is = rw is (omega arith)
-first_counts reaction others false is = rw is (omega arith)
+first_counts reaction others refused is = grind arith
 
 refusals-line : (bench : Bench) (line : List ℕ) (more : List (List ℕ))
     → refusals bench (line ∷ more) ≡ one_if (reacts bench line).refused + refusals (reacts bench line).bench more
@@ -37,8 +36,7 @@ unfolding bench_after
 bench_after-none bench = refl
 
 one_at_most : (b : Bool) → one_if b ≤ 1
-one_at_most true = omega arith
-one_at_most false = omega arith
+one_at_most b = grind arith
 
 -- no more are refused than there are
 pub refusals-le : (bench : Bench) (lines : List (List ℕ)) → refusals bench lines ≤ length lines
@@ -55,9 +53,6 @@ pub record CountsFaults (first bench : Bench) (all left : List (List ℕ)) (refu
   pub bench_is : bench_after bench left ≡ bench_after first all
   pub refused_is : refused + refusals bench left ≡ refusals first all
   pub few : refused + length left ≤ length all
-
-pub counts_first : (bench : Bench) (all : List (List ℕ)) → CountsFaults bench bench all all 0
-counts_first bench all = record { bench_is = refl; refused_is = omega arith; few = omega arith }
 
 -- a line more is answered
 pub counts_next : (first bench after : Bench) (all left left' : List (List ℕ)) (refused : ℕ) (line answer : List ℕ) (is_refused : Bool)

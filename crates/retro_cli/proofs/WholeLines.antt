@@ -1,10 +1,13 @@
--- Bytes that end with a line feed, or are none.
-use Rattle.std.proofs.Common.{◌≡◌, ℕ, Bool, true, false, List, [], ◌∷◌, ◌++◌, refl, sym, ap, ◌∙◌, subst, append_assoc, append-nil, inl, inr}
+-- Bytes that end with a line feed, or are none, and the bytes up to their last line feed: their lines are whole.
+use Rattle.std.proofs.Common.{◌≡◌, ℕ, Bool, true, false, List, [], ◌∷◌, ◌++◌, refl, sym, ap, ◌∙◌, append_assoc, append-nil, inl, inr, suc, ◌≤◌, length, map, arith}
 use Rattle.std.specs.Prelude.{if◌then◌else◌, ◌==◌}
 use Rattle.std.proofs.lemmas.Bool.{false≢true}
 use Rattle.retro_io.specs.LineLaws.{lines-cut}
-use Rattle.retro_io.specs.Lines.{lines, has_line_feed, line_feed, without_return, StartsWith}
+use Rattle.retro_io.specs.declared.mark.Mark.{Mark}
+use Rattle.retro_io.specs.Lines.{lines, has_line_feed, line_feed, without_return, onto_first, pieces}
+use Rattle.retro_io.specs.Reads.{GivesPiece}
 use Rattle.retro_cli.specs.Output.{up_to_last_feed}
+use Rattle.std.proofs.lemmas.List.{map-append}
 
 if_same : {A : Type 0} (test : Bool) (a : A) → (if test then a else a) ≡ a
 if_same true a = refl
@@ -54,18 +57,20 @@ pub record Further (past now after : List ℕ) (given : List (List ℕ)) (line :
   pub cut : past ++ now ≡ bytes ++ after
   pub whole : ended ≡ false → AreWhole bytes (given ++ line ∷ [])
 
-pub further : (past now after : List ℕ) (given : List (List ℕ)) (line : List ℕ) (ended : Bool) → AreWhole past given → StartsWith now line after ended
-    → Further past now after given line ended
-further past now after given line ended whole (inl starts) = record {
-  bytes = past ++ (starts.0 ++ line_feed ∷ []);
-  cut = ap (λ xs. past ++ xs) starts.3 ∙ sym (after_line past starts.0 after);
-  whole = λ _. subst (λ l. AreWhole (past ++ (starts.0 ++ line_feed ∷ [])) (given ++ l ∷ [])) (sym starts.2) (whole_line past given starts.0 whole starts.1);
-}
-further past now after given line ended whole (inr last) = record {
-  bytes = past ++ now;
-  cut = sym (append-nil (past ++ now)) ∙ ap (λ xs. (past ++ now) ++ xs) (sym last.1);
-  whole = λ e. absurd (false≢true (sym e ∙ last.2));
-}
+pub further : (past now after : List ℕ) (given : List (List ℕ)) (mark : Mark) (shown : List ℕ) (ended : Bool) → AreWhole past given
+    → (p : GivesPiece mark shown ended now after) → Further past now after given (without_return p.piece) ended
+further past now after given mark shown ended whole p = elim p.cut [
+  | inl e ↦ record {
+    bytes = past ++ (p.piece ++ line_feed ∷ []);
+    cut = ap (λ xs. past ++ xs) e ∙ sym (after_line past p.piece after);
+    whole = λ _. whole_line past given p.piece whole p.unbroken;
+  }
+  | inr e ↦ record {
+    bytes = past ++ now;
+    cut = sym (append-nil (past ++ now)) ∙ ap (λ xs. (past ++ now) ++ xs) (sym e.1);
+    whole = λ unended. absurd (false≢true (sym unended ∙ e.2));
+  }
+]
 
 -- bytes without a line feed after them make no further whole line
 pub up_to-unbroken : (past more : List ℕ) (given : List (List ℕ)) → AreWhole past given → has_line_feed more ≡ false
@@ -73,3 +78,64 @@ pub up_to-unbroken : (past more : List ℕ) (given : List (List ℕ)) → AreWho
 up_to-unbroken past more given whole unbroken =
     ap lines (whole.up_to more ∙ ap (λ xs. past ++ xs) (up_to_none more unbroken))
     ∙ whole.parts [] ∙ append-nil given
+
+few_if : (test : Bool) (b : ℕ) (xs : List ℕ) (n : ℕ) → length xs ≤ n → length (if test then b ∷ xs else []) ≤ suc n
+few_if test b xs n few = grind arith
+
+-- bytes without a line feed add none
+pub up_to-few : (past more : List ℕ) → has_line_feed more ≡ false → length (up_to_last_feed (past ++ more)) ≤ length past
+unfolding up_to_last_feed
+up_to-few [] more unbroken = rw (up_to_none more unbroken) (omega arith)
+up_to-few (b ∷ past) more unbroken =
+    few_if (has_line_feed (b ∷ (past ++ more))) b (up_to_last_feed (past ++ more)) (length past) (up_to-few past more unbroken)
+
+-- the bytes begin with these
+pub record StartsWithBytes (bytes first : List ℕ) : Type 0 where
+  pub rest : List ℕ
+  pub cut : bytes ≡ first ++ rest
+
+starts_if : (test : Bool) (b : ℕ) (bs first : List ℕ) → StartsWithBytes bs first → StartsWithBytes (b ∷ bs) (if test then b ∷ first else [])
+starts_if true b bs first starts = record { rest = starts.rest; cut = ap (λ xs. b ∷ xs) starts.cut }
+starts_if false b bs first starts = record { rest = b ∷ bs; cut = refl }
+
+pub up_to-starts : (bytes : List ℕ) → StartsWithBytes bytes (up_to_last_feed bytes)
+unfolding up_to_last_feed
+up_to-starts [] = record { rest = []; cut = refl }
+up_to-starts (b ∷ bs) = starts_if (has_line_feed (b ∷ bs)) b bs (up_to_last_feed bs) (up_to-starts bs)
+
+-- bytes that end with a line feed: their pieces are whole, whatever comes after them
+record HasPieces (bytes : List ℕ) : Type 0 where
+  one : List ℕ
+  others : List (List ℕ)
+  parts : (more : List ℕ) → pieces (bytes ++ more) ≡ one ∷ (others ++ pieces more)
+
+up_to-pieces : (bytes : List ℕ) → has_line_feed bytes ≡ true → HasPieces (up_to_last_feed bytes)
+unfolding up_to_last_feed
+up_to-pieces [] broken = absurd (false≢true broken)
+up_to-pieces (b ∷ bs) broken =
+    rw broken
+    (elim (b == line_feed) as (λ t. (b == line_feed) ≡ t → HasPieces (b ∷ up_to_last_feed bs)) [
+      | true ↦ λ is. elim (has_line_feed bs) as (λ t. has_line_feed bs ≡ t → HasPieces (b ∷ up_to_last_feed bs)) [
+        | true ↦ λ later. let rest = up_to-pieces bs later in
+            record { one = []; others = rest.one ∷ rest.others; parts = λ more. rw is (ap (λ ps. [] ∷ ps) (rest.parts more)) }
+        | false ↦ λ none. rw (up_to_none bs none) record { one = []; others = []; parts = λ more. rw is refl }
+      ] refl
+      | false ↦ λ other.
+          let rest = up_to-pieces bs (rw other at broken) in
+          record { one = b ∷ rest.one; others = rest.others; parts = λ more. rw other (ap (onto_first b) (rest.parts more)) }
+    ] refl)
+
+pieces_whole : (bytes more : List ℕ) → pieces (up_to_last_feed bytes ++ more) ≡ pieces (up_to_last_feed bytes) ++ pieces more
+pieces_whole bytes more =
+    elim (has_line_feed bytes) as (λ t. has_line_feed bytes ≡ t → pieces (up_to_last_feed bytes ++ more) ≡ pieces (up_to_last_feed bytes) ++ pieces more) [
+      | true ↦ λ broken.
+          let has = up_to-pieces bytes broken in
+          let alone : pieces (up_to_last_feed bytes) ≡ has.one ∷ has.others =
+          ap pieces (sym (append-nil (up_to_last_feed bytes))) ∙ has.parts [] ∙ ap (λ ps. has.one ∷ ps) (append-nil has.others) in
+          has.parts more ∙ ap (λ ps. ps ++ pieces more) (sym alone)
+      | false ↦ λ none. rw (up_to_none bytes none) refl
+    ] refl
+
+-- the lines of these bytes are whole, whatever comes after them
+pub up_to-lines : (bytes more : List ℕ) → lines (up_to_last_feed bytes ++ more) ≡ lines (up_to_last_feed bytes) ++ lines more
+up_to-lines bytes more = ap (map without_return) (pieces_whole bytes more) ∙ map-append without_return (pieces (up_to_last_feed bytes)) (pieces more)

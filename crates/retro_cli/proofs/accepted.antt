@@ -11,7 +11,6 @@ pub mod Telling
 pub mod Spelled
 pub mod Passing
 pub mod Positions
-pub mod Shifts
 pub mod Effects
 pub mod Blocks
 -- the bench, line by line

@@ -1,5 +1,5 @@
 -- Who follows a script, and how its lines are answered then: the bench answers each line but those that mute a follower.
-use Rattle.std.specs.Prelude.{◌≡◌, ℕ, zero, suc, Bool, false, List, [], ◌∷◌, ◌++◌, map, Option, None, Some, option_map, Result, Ok}
+use Rattle.std.specs.Prelude.{ℕ, zero, suc, Bool, false, List, [], ◌∷◌, ◌++◌, map, Option, None, Some, option_map, Result, Ok}
 use Rattle.retro_base.specs.LineLength.{is_long}
 use Rattle.evidence.specs.declared.evidence.Evidence.{Evidence}
 use Rattle.followers.specs.Followers.{Reporting}
@@ -8,7 +8,6 @@ use Rattle.script_grammar.specs.declared.command.Command.TheVariants.{Mute}
 use Rattle.script_grammar.specs.declared.command.LineError.{LineError}
 use Rattle.workbench.specs.Bench.{Bench, OpenBlock, empty_bench}
 use Rattle.workbench.specs.Reaction.{Reaction, reacts, reacts_to, spelled}
-use Rattle.retro_io.specs.Lines.{lines}
 use Rattle.retro_cli.specs.Events.{events_among, report_line}
 use Rattle.retro_cli.specs.Output.{Answering}
 
@@ -98,11 +97,6 @@ followed_from bench audience (line ∷ more) =
 unfoldable pub audience_after : Bench → Audience → List (List ℕ) → Audience
 audience_after bench audience [] = audience
 audience_after bench audience (line ∷ more) = audience_after (reacts bench line).bench (follows bench audience line).audience more
-
--- followers have seen a script, where the source tells it
-abbrev pub HaveFollowed : Option (List ℕ) → Audience → Audience → Type 0
-HaveFollowed None before after = Unit {0}
-HaveFollowed (Some bytes) before after = after ≡ audience_after empty_bench before (lines bytes)
 
 -- what those who are left report, each under its number
 abbrev pub texts_of : Audience → List (Option (List ℕ))

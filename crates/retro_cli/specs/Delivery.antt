@@ -1,10 +1,20 @@
--- What stands in the sink where a run writes one text, at its end, and nothing else.
+-- What stands in the sink where a text is written.
 use Rattle.std.specs.Prelude.{◌≡◌, ◌⊎◌, ℕ, true, false, List, Option, None, Some, Result, Ok, Err}
 use Rattle.retro_io.specs.declared.sink.Sink.{Ghosts}
-use Rattle.retro_io.specs.Flushes.{EndsWithFailedWrite, EndsWithFlush, Sends}
+use Rattle.retro_io.specs.Flushes.{EndsWithFailedWrite, EndsWithFlush, Sends, StaysUnflushed}
 use Rattle.retro_io.specs.Sink.{Appends, AppendsProperPrefix}
 use Rattle.retro_cli.specs.declared.stop.Stop.{Stop}
 use Rattle.retro_cli.specs.declared.stop.Stop.TheVariants as stops
+
+-- what a send does, a text, and the sink before and after
+module _ {K : Type 0} (G : Ghosts K) (sends : Sends K) (text : List ℕ) (short : Type 0) (before after : K) where
+  -- where it is written and not flushed: all of it was appended, or a write failed within it and was the last call, or memory was short and
+  -- this stands; nothing is read for it
+  abbrev pub Writes : {V : Type 0} → Result V Stop → Type 0
+  Writes (Ok value) = Appends (G.written before) text (G.written after) × StaysUnflushed G sends before after
+  Writes (Err stops.WriteFault) = AppendsProperPrefix (G.written before) text (G.written after) × EndsWithFailedWrite G sends before after
+  Writes (Err stops.NoMemory) = short
+  Writes (Err stop) = ⊥
 
 -- the text was appended, where it is known and the sink tells what was written
 abbrev pub AppendsText : Option (List ℕ) → Option (List ℕ) → Option (List ℕ) → Type 0

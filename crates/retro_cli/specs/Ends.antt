@@ -50,6 +50,13 @@ module _ {S K : Type 0} (I : sources.Ghosts S) (O : sinks.Ghosts K) (sends : Sen
     pub flushed : O.flushed sink' ≡ true
     pub refusal : MatchesRefusal answering (I.left source) refused
 
+  -- the same where this was appended, and not flushed yet
+  pub record EndsUnflushed (appended : Option (List ℕ) → Option (List ℕ) → Option (List ℕ) → Type 0) (refused : Bool) : Type 0 where
+    pub ended : I.ended source' ≡ true
+    pub output : appended (I.left source) (O.written sink) (O.written sink')
+    pub unflushed : StaysUnflushed O sends sink sink'
+    pub refusal : MatchesRefusal answering (I.left source) refused
+
   -- memory ran out before a line was answered: the answers to those before it were appended, none where that was before the first, all
   -- where it was the close, and no report after the output
   pub record EndsAtLine : Type 0 where

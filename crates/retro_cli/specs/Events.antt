@@ -1,16 +1,12 @@
 -- The events among answers, and the lines in which followers report of them.
 use Rattle.std.specs.Prelude.{ℕ, ◌+◌, List, [], ◌∷◌, ◌++◌, get_or, take, codes, decimal, filter_map, flat_map, Option, None, Some, IsSome}
-use Rattle.retro_io.specs.declared.sink.Sink.{Ghosts}
-use Rattle.retro_io.specs.Flushes.{EndsWithFailedWrite, Sends, StaysUnflushed}
 use Rattle.retro_io.specs.Lines.{line_feed, lines}
-use Rattle.retro_io.specs.Sink.{Appends, AppendsProperPrefix}
+use Rattle.retro_io.specs.Sink.{Appends}
 use Rattle.evidence.specs.declared.evidence.Evidence.{Evidence}
 use Rattle.evidence.specs.Reading.{evidence_of}
 use Rattle.workbench.specs.Answers.{reactions}
 use Rattle.workbench.specs.Bench.{empty_bench}
 use Rattle.workbench.specs.Reaction.{Reaction}
-use Rattle.retro_cli.specs.declared.stop.Stop.{Stop}
-use Rattle.retro_cli.specs.declared.stop.Stop.TheVariants as stops
 
 -- the events that lines spell: other lines are passed over
 abbrev pub events_spelled : List (List ℕ) → List Evidence
@@ -48,22 +44,3 @@ pub record AppendsFirstReports (texts : List (Option (List ℕ))) (before after 
   pub count : ℕ
   pub asked : IsSome (get_or texts count None)
   pub appended : Appends before (report_lines 0 (take count texts)) after
-
--- what a send does, the sink before the reports and where they stop
-module _ {K : Type 0} (G : Ghosts K) (sends : Sends K) (texts : List (Option (List ℕ))) (before after : K) where
-  -- some first reports were appended, and not flushed
-  pub record StopsAfterReport : Type 0 where
-    pub whole : AppendsFirstReports texts (G.written before) (G.written after)
-    pub unflushed : StaysUnflushed G sends before after
-
-  -- a write failed within the reports, and that was the last call
-  pub record StopsWithinReport : Type 0 where
-    pub part : AppendsProperPrefix (G.written before) (report_lines 0 texts) (G.written after)
-    pub last : EndsWithFailedWrite G sends before after
-
-  -- what stands where the reports stop so: nothing is read for them
-  abbrev pub ReportsStand : Stop → Type 0
-  ReportsStand stops.ReadFault = ⊥
-  ReportsStand stops.TooLong = ⊥
-  ReportsStand stops.NoMemory = StopsAfterReport
-  ReportsStand stops.WriteFault = StopsWithinReport

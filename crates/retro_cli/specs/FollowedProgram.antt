@@ -2,12 +2,13 @@
 use Rattle.std.specs.Prelude.{◌≡◌, ℕ, Bool, true, false, ◌⊎◌, List, Option, None, IsSome}
 use Rattle.retro_io.specs.declared.sink.Sink as sinks
 use Rattle.retro_io.specs.declared.source.Source as sources
-use Rattle.retro_io.specs.Flushes.{Sends}
+use Rattle.retro_io.specs.Flushes.{Sends, no_sends}
 use Rattle.retro_cli.specs.declared.form.Form.{Form}
 use Rattle.retro_cli.specs.declared.status.Status.{Status}
 use Rattle.retro_cli.specs.Audience.{Audience, followed}
+use Rattle.retro_cli.specs.Ends.{EndsAtSink}
 use Rattle.retro_cli.specs.Forms.{form_of, is_follow}
-use Rattle.retro_cli.specs.Program.{AnswersScript, Runs}
+use Rattle.retro_cli.specs.Program.{AnswersScript, EndsUnsent, Runs}
 use Rattle.retro_cli.specs.Promise.{KeepsPromise}
 
 -- the most followers of a run
@@ -33,3 +34,9 @@ module _ {S K : Type 0} (I : sources.Ghosts S) (O : sinks.Ghosts K) (sends : Sen
   -- all that it promises
   abbrev pub RunsFollowed : List (List ℕ) → Type 0
   RunsFollowed words = KeepsPromise I O source source' sink sink' status (RunsBy (is_follow words) (form_of words)) (HasForm words) (HasNoForm words)
+
+-- what is claimed besides at a fault of a sink that is written to and flushed alone
+module _ {S K : Type 0} (I : sources.Ghosts S) (O : sinks.Ghosts K) (source source' : S) (sink sink' : K) where
+  abbrev pub EndsUnsentBy : Audience → Bool → Option Form → Type 0
+  EndsUnsentBy audience true form = EndsAtSink O no_sends (followed audience) (I.left source) (I.left source') sink sink'
+  EndsUnsentBy audience false form = EndsUnsent I O source source' sink sink' form

@@ -1,5 +1,5 @@
 -- The forms of the words of a command line.
-use Rattle.std.specs.Prelude.{ℕ, Bool, false, ◌&&◌, is_some, ◌-◌, ◌≤◌, ◌^◌, List, [], ◌∷◌, codes, Option, Some, None, option_map, option_and_then, if◌then◌else◌}
+use Rattle.std.specs.Prelude.{ℕ, Bool, false, ◌&&◌, is_some, ◌-◌, ◌^◌, List, [], ◌∷◌, codes, Option, Some, None, option_map, option_and_then, if◌then◌else◌}
 use Rattle.std.specs.Str.{bytes_eq}
 use Rattle.retro_base.specs.Name.{name_of}
 use Rattle.script_grammar.specs.Command.{kind_of_word}
@@ -41,9 +41,3 @@ is_follow [] = false
 is_follow (word ∷ []) = bytes_eq word (codes "follow")
 is_follow (word ∷ name ∷ []) = bytes_eq word (codes "follow") && is_some (name_of name)
 is_follow (word ∷ name ∷ other ∷ more) = false
-
--- a generated script has no more lines than it may have
-abbrev pub IsWithin : Form → Type 0
-IsWithin Run = Unit {0}
-IsWithin Check = Unit {0}
-IsWithin (Gen kind lines start) = lines ≤ most_generated

@@ -1,13 +1,24 @@
 -- The judgement of evidence, of which some lines were read.
-use Rattle.std.specs.Prelude.{ℕ, ◌+◌, Bool, true, false, List, [], ◌∷◌, ◌++◌, Result, Ok, Err}
+use Rattle.std.specs.Prelude.{ℕ, ◌+◌, ◌≤◌, Bool, true, false, List, [], ◌∷◌, ◌++◌, Option, None, Some, Result, Ok, Err}
 use Rattle.retro_io.specs.Lines.{line_feed, lines}
 use Rattle.evidence_check.specs.declared.error.CheckError.{CheckError}
+use Rattle.retro_cli.specs.declared.judging.Refusal.{Refusal}
 use Rattle.evidence_check.specs.Judgement.{Judge, Judgement, accepted, judged_line, judgement, judgement_from, judgement_text, refused}
 
 -- all evidence of so many lines was accepted, and the judge has it; or this line was the first that was refused
 pub data Verdict : Type 0 where
   so_far : ℕ → Judge → Verdict
   against : ℕ → CheckError → Verdict
+
+-- the verdict of a judge after so many lines, of which this one was refused, if any was
+abbrev pub verdict : Judge → ℕ → Option Refusal → Verdict
+verdict judge lines None = so_far lines judge
+verdict judge lines (Some refusal) = against refusal.line refusal.cause
+
+-- a line that was refused is one of those read
+abbrev pub RefusalIsRead : ℕ → Option Refusal → Type 0
+RefusalIsRead lines None = Unit {0}
+RefusalIsRead lines (Some refusal) = refusal.line ≤ lines
 
 -- how many lines were read, up to one that was refused
 abbrev pub lines_read : Verdict → ℕ

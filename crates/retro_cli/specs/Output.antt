@@ -21,9 +21,6 @@ alone = record { reactions_to = λ first. reactions empty_bench first; reports_a
 abbrev pub answers_by : Answering → List (List ℕ) → List ℕ
 answers_by answering first = concat (map (λ (reaction : Reaction). reaction.answer) (answering.reactions_to first))
 
-abbrev pub answers_to : List (List ℕ) → List ℕ
-answers_to first = answers_by alone first
-
 -- one of the first lines of a script is refused
 abbrev pub refuses_by : Answering → List (List ℕ) → Bool
 refuses_by answering first = list_any (λ (reaction : Reaction). reaction.refused) (answering.reactions_to first)
@@ -46,9 +43,6 @@ whole_by answering bytes = with_reports (output_by answering bytes) (answering.r
 -- a script has a line that is refused, or its close is
 abbrev pub has_refusal_by : Answering → List ℕ → Bool
 has_refusal_by answering bytes = refuses_by answering (lines bytes) || (close_of (lines bytes)).refused
-
-abbrev pub has_refusal : List ℕ → Bool
-has_refusal bytes = has_refusal_by alone bytes
 
 -- the bytes up to their last line feed, which is one of them
 unfoldable pub up_to_last_feed : List ℕ → List ℕ

@@ -3,13 +3,13 @@ use Rattle.std.specs.Prelude.{◌≡◌, ℕ, true, List, Option, None, Some, If
 use Rattle.retro_base.specs.declared.kind.Kind.{Kind}
 use Rattle.retro_io.specs.declared.sink.Sink as sinks
 use Rattle.retro_io.specs.declared.source.Source as sources
-use Rattle.retro_io.specs.Flushes.{Sends}
+use Rattle.retro_io.specs.Flushes.{Sends, no_sends}
 use Rattle.retro_cli.specs.declared.form.Form.{Form}
 use Rattle.retro_cli.specs.declared.form.Form.TheVariants.{Run, Check, Gen}
 use Rattle.retro_cli.specs.declared.status.Status.{Status}
 use Rattle.retro_cli.specs.declared.status.Status.TheVariants as statuses
 use Rattle.retro_cli.specs.Delivery.{Arrives, IsCutOff}
-use Rattle.retro_cli.specs.Ends.{ScriptStands}
+use Rattle.retro_cli.specs.Ends.{EndsAtSink, ScriptStands}
 use Rattle.retro_cli.specs.Forms.{form_of}
 use Rattle.retro_cli.specs.Judging.{is_refusal, judged_output, judgement_of}
 use Rattle.retro_cli.specs.Output.{Answering, alone}
@@ -49,3 +49,10 @@ module _ {S K : Type 0} (I : sources.Ghosts S) (O : sinks.Ghosts K) (sends : Sen
   -- all that a run promises that nobody follows
   abbrev pub RunsAlone : List (List ℕ) → Type 0
   RunsAlone words = KeepsPromise I O source source' sink sink' status (Runs (form_of words)) (IsSome (form_of words)) (form_of words ≡ None)
+
+-- what is claimed besides at a fault of a sink that is written to and flushed alone: less than the whole was appended at a write that failed, and
+-- all of it only at a flush that failed; for `check` and `gen` it is said of every sink
+module _ {S K : Type 0} (I : sources.Ghosts S) (O : sinks.Ghosts K) (source source' : S) (sink sink' : K) where
+  abbrev pub EndsUnsent : Option Form → Type 0
+  EndsUnsent (Some Run) = EndsAtSink O no_sends alone (I.left source) (I.left source') sink sink'
+  EndsUnsent form = Unit {0}

@@ -6,7 +6,7 @@ ghost use Rattle.retro_io.specs.Faults.{CountsFaults};
 ghost use Rattle.retro_io.specs.LineReader.{MovesOn, has_failed, limit_of, rest_of, source_of, taken};
 ghost use Rattle.retro_cli.specs.Delivery.{StandsAt};
 ghost use Rattle.retro_cli.specs.Judging.{is_refusal, judged_output, judgement_after, judgement_of};
-ghost use Rattle.retro_cli.specs.Causes.{HasCause};
+ghost use Rattle.retro_cli.specs.Promise.{HasCause};
 ghost use Rattle.retro_cli.specs.Stop.{stops_at_read, stops_at_write};
 
 use crate::MAX_BYTES;

@@ -1,13 +1,13 @@
 //! What followers are handed, and what they report.
 
-ghost use Rattle.std.specs.Prelude.{◌≡◌, ◌<◌, ◌≤◌, ◌==◌, ◌∷◌, [], ◌++◌, false, length, option_map, IfErr, IsErrOf, IsSome, OnErr, OnOk};
+ghost use Rattle.std.specs.Prelude.{◌≡◌, ◌<◌, ◌≤◌, ◌==◌, ◌∷◌, [], ◌++◌, length, option_map, IsSome, OnOk};
 ghost use Rattle.retro_io.specs.Faults.{CountsFaults};
-ghost use Rattle.retro_io.specs.Flushes.{EndsWithFailedWrite, StaysUnflushed};
+ghost use Rattle.retro_io.specs.Flushes.{StaysUnflushed};
 ghost use Rattle.std.specs.List.{position_or_len};
 ghost use Rattle.retro_io.specs.Lines.{line_feed, lines, without_return};
-ghost use Rattle.retro_io.specs.Sink.{Appends, AppendsProperPrefix};
 ghost use Rattle.retro_cli.specs.Audience.{after_events, audience_by, hears, texts_of};
-ghost use Rattle.retro_cli.specs.Events.{ReportsStand, events_among, events_spelled, line_of, report_line, report_lines};
+ghost use Rattle.retro_cli.specs.Delivery.{Writes};
+ghost use Rattle.retro_cli.specs.Events.{AppendsFirstReports, events_among, events_spelled, line_of, report_line, report_lines};
 ghost use Rattle.retro_cli.specs.Stop.{stops_at_write};
 
 use crate::deliver::append;
@@ -29,13 +29,6 @@ pub(crate) fn hand_on(
     if followers.is_empty() {
         return Ok(());
     }
-    hand_on_lines(answer, followers)
-}
-
-/// Hands the events among the lines of an answer on, line by line.
-fn hand_on_lines(answer: &[u8], followers: &mut [Option<Box<dyn Follower>>]) -> Result<(), NoMemory>
-    ensures { OnOk result (audience_by report_after followers.new ≡ hears (events_among answer.now) (audience_by report_after followers.old)) }
-{
     let mut rest = answer;
     while !rest.is_empty() {
         let (line, after) = cut_line(rest);
@@ -123,9 +116,9 @@ pub(crate) fn write_reports<K: SendingSink>(
     followers: &[Option<Box<dyn Follower>>],
     sink: &mut K,
 ) -> Result<(), Stop>
-    ensures appended { OnOk result (Appends (K.written sink.old) (report_lines 0 (texts_of (audience_by report_after followers.now))) (K.written sink.new)) }
-    ensures unflushed { OnOk result (StaysUnflushed ⟦<K as Sink>⟧ K.sends sink.old sink.new) }
-    ensures stands { IfErr result (ReportsStand ⟦<K as Sink>⟧ K.sends (texts_of (audience_by report_after followers.now)) sink.old sink.new) }
+    ensures writes { let texts = texts_of (audience_by report_after followers.now) in
+        Writes ⟦<K as Sink>⟧ K.sends (report_lines 0 texts) (AppendsFirstReports texts (K.written sink.old) (K.written sink.new) × StaysUnflushed ⟦<K as Sink>⟧ K.sends sink.old sink.new)
+        sink.old sink.new result }
     ensures sink_faults { CountsFaults (stops_at_write result) (K.faults sink.old) (K.faults sink.new) }
 {
     let mut line = Text::new(alloc);
@@ -142,14 +135,9 @@ fn write_report_left<K: SendingSink>(
     line: &mut Text,
     sink: &mut K,
 ) -> Result<(), Stop>
-    ensures appended { OnOk result (Appends (K.written sink.old) (line_of number (option_map (λ report. report []) (option_map report_after follower.now))) (K.written sink.new)) }
-    ensures part { IsErrOf result Stop.WriteFault → AppendsProperPrefix (K.written sink.old) (line_of number (option_map (λ report. report []) (option_map report_after follower.now))) (K.written sink.new) }
-    ensures asked { OnErr result (IsSome (option_map (λ report. report []) (option_map report_after follower.now))) }
-    ensures untouched { OnErr result (stops_at_write result ≡ false → sink.new ≡ sink.old) }
-    ensures unflushed { OnOk result (StaysUnflushed ⟦<K as Sink>⟧ K.sends sink.old sink.new) }
-    ensures last { IsErrOf result Stop.WriteFault → EndsWithFailedWrite ⟦<K as Sink>⟧ K.sends sink.old sink.new }
+    ensures writes { let text = option_map (λ report. report []) (option_map report_after follower.now) in
+        Writes ⟦<K as Sink>⟧ K.sends (line_of number text) (IsSome text × (sink.new ≡ sink.old)) sink.old sink.new result }
     ensures sink_faults { CountsFaults (stops_at_write result) (K.faults sink.old) (K.faults sink.new) }
-    ensures reads_nothing { (IsErrOf result Stop.ReadFault → ⊥) × (IsErrOf result Stop.TooLong → ⊥) }
 {
     match follower {
         Some(left) => write_report(number, left, line, sink),
@@ -164,13 +152,8 @@ pub(crate) fn write_report<K: SendingSink>(
     line: &mut Text,
     sink: &mut K,
 ) -> Result<(), Stop>
-    ensures appended { OnOk result (Appends (K.written sink.old) (report_line number (report_after follower.now [])) (K.written sink.new)) }
-    ensures part { IsErrOf result Stop.WriteFault → AppendsProperPrefix (K.written sink.old) (report_line number (report_after follower.now [])) (K.written sink.new) }
-    ensures untouched { OnErr result (stops_at_write result ≡ false → sink.new ≡ sink.old) }
-    ensures unflushed { OnOk result (StaysUnflushed ⟦<K as Sink>⟧ K.sends sink.old sink.new) }
-    ensures last { IsErrOf result Stop.WriteFault → EndsWithFailedWrite ⟦<K as Sink>⟧ K.sends sink.old sink.new }
+    ensures writes { Writes ⟦<K as Sink>⟧ K.sends (report_line number (report_after follower.now [])) (sink.new ≡ sink.old) sink.old sink.new result }
     ensures sink_faults { CountsFaults (stops_at_write result) (K.faults sink.old) (K.faults sink.new) }
-    ensures reads_nothing { (IsErrOf result Stop.ReadFault → ⊥) × (IsErrOf result Stop.TooLong → ⊥) }
 {
     line.clear();
     print_report(number, follower, line)?;

@@ -1,11 +1,10 @@
 //! A whole run of a script, with followers or without.
 
-ghost use Rattle.std.specs.Prelude.{◌≡◌, [], Err, false, true, map, IfErr, IfOk, OnOk};
-ghost use Rattle.retro_io.specs.Flushes.{StaysUnflushed};
+ghost use Rattle.std.specs.Prelude.{◌≡◌, [], Err, false, map, IfErr, IfOk};
 ghost use Rattle.retro_cli.specs.Audience.{audience_by, audience_of, followed};
-ghost use Rattle.retro_cli.specs.Ends.{ScriptStands};
-ghost use Rattle.retro_cli.specs.Causes.{HasCause};
-ghost use Rattle.retro_cli.specs.Run.{AppendsWhole, MatchesRefusal};
+ghost use Rattle.retro_cli.specs.Ends.{EndsUnflushed, ScriptStands};
+ghost use Rattle.retro_cli.specs.Promise.{HasCause};
+ghost use Rattle.retro_cli.specs.Run.{AppendsWhole};
 ghost use Rattle.retro_cli.specs.Stop.{StopsReading, status_after, stops_at_write};
 
 use crate::deliver::send;
@@ -24,10 +23,8 @@ fn answer_and_report<S: Source, K: SendingSink>(
     followers: &mut [Option<Box<dyn Follower>>],
     sink: &mut K,
 ) -> Result<bool, Stop>
-    ensures ended { OnOk result (S.ended source.new ≡ true) }
-    ensures output { OnOk result (AppendsWhole (followed (audience_by report_after followers.old)) (S.left source.old) (K.written sink.old) (K.written sink.new)) }
-    ensures refusal { IfOk result (MatchesRefusal (followed (audience_by report_after followers.old)) (S.left source.old)) }
-    ensures unflushed { OnOk result (StaysUnflushed ⟦<K as Sink>⟧ K.sends sink.old sink.new) }
+    ensures answered { IfOk result (EndsUnflushed ⟦<S as Source>⟧ ⟦<K as Sink>⟧ K.sends (followed (audience_by report_after followers.old))
+        source.old source.new sink.old sink.new (AppendsWhole (followed (audience_by report_after followers.old)))) }
     ensures stands { IfErr result (λ stop. ScriptStands ⟦<S as Source>⟧ ⟦<K as Sink>⟧ K.sends (followed (audience_by report_after followers.old))
         source.old source.new sink.old sink.new (status_after (Err stop))) }
     ensures cause { HasCause ⟦<S as Source>⟧ ⟦<K as Sink>⟧ source.old source.new sink.old sink.new result }

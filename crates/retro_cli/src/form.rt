@@ -1,7 +1,7 @@
 //! What the words of a command line ask for.
 
-ghost use Rattle.std.specs.Prelude.{◌≡◌, IfSome};
-ghost use Rattle.retro_cli.specs.Forms.{IsWithin, form_of, form_of_word, form_of_words, generation, is_follow};
+ghost use Rattle.std.specs.Prelude.{◌≡◌};
+ghost use Rattle.retro_cli.specs.Forms.{form_of, form_of_word, form_of_words, generation, is_follow};
 
 use crate::Words;
 use retro_base::{Kind, Name};
@@ -23,8 +23,7 @@ pub(crate) enum Form {
 
 /// The form of the words, if they have one.
 pub(crate) fn form_of(words: &Words) -> Option<Form>
-    ensures exact { result ≡ form_of words.now }
-    ensures range { IfSome result IsWithin }
+    ensures { result ≡ form_of words.now }
 {
     match words.len() {
         1 => form_of_word(words.word(0)),
@@ -35,8 +34,7 @@ pub(crate) fn form_of(words: &Words) -> Option<Form>
 
 /// `run`, or `check`.
 fn form_of_word(word: &[u8]) -> Option<Form>
-    ensures exact { result ≡ form_of_word word.now }
-    ensures range { IfSome result IsWithin }
+    ensures { result ≡ form_of_word word.now }
 {
     if word == b"run".as_slice() {
         Some(Form::Run)
@@ -49,8 +47,7 @@ fn form_of_word(word: &[u8]) -> Option<Form>
 
 /// `gen KIND N START`.
 fn form_of_words(word: &[u8], kind: &[u8], lines: &[u8], start: &[u8]) -> Option<Form>
-    ensures exact { result ≡ form_of_words word.now kind.now lines.now start.now }
-    ensures range { IfSome result IsWithin }
+    ensures { result ≡ form_of_words word.now kind.now lines.now start.now }
 {
     if word == b"gen".as_slice() {
         generation(kind, lines, start)
@@ -61,8 +58,7 @@ fn form_of_words(word: &[u8], kind: &[u8], lines: &[u8], start: &[u8]) -> Option
 
 /// `KIND N START`.
 fn generation(kind: &[u8], lines: &[u8], start: &[u8]) -> Option<Form>
-    ensures exact { result ≡ generation kind.now lines.now start.now }
-    ensures range { IfSome result IsWithin }
+    ensures { result ≡ generation kind.now lines.now start.now }
 {
     let kind = kind_of_word(kind)?;
     let lines = read_natural_up_to(lines, MAX_GENERATED)? as u32;

@@ -27,8 +27,7 @@ pub(crate) struct Judging {
 
 impl Model for Judging {
     ghost use Rattle.std.specs.Prelude.{◌≤◌, ◌≡◌};
-    ghost use Rattle.retro_cli.specs.Judging.{Verdict};
-    ghost use Rattle.retro_cli.specs.Verdicts.{RefusalIsRead, verdict};
+    ghost use Rattle.retro_cli.specs.Judging.{RefusalIsRead, Verdict, verdict};
 
     ghost Value = { Verdict };
 

@@ -1,8 +1,7 @@
 //! Laws over the definitions of the output, of its events and of a saved text.
 
 ghost use Rattle.retro_cli.specs.Accepted.{WhatIsWrittenIsAccepted};
-ghost use Rattle.retro_cli.specs.HeardEvents.{MirrorsReportThePresent, WhoIsLeftHasHeardAll};
-ghost use Rattle.retro_cli.specs.Mirrored.{ChangesAloneHoldThePresent};
+ghost use Rattle.retro_cli.specs.Mirrored.{ChangesAloneHoldThePresent, MirrorsReportThePresent, WhoIsLeftHasHeardAll};
 ghost use Rattle.retro_cli.specs.SavedText.{SavedTextReadsBack};
 
 use evidence::laws::{lines_are_short, lines_are_values};

@@ -1,12 +1,11 @@
 //! The line that lets a follower go.
 
-ghost use Rattle.std.specs.Prelude.{◌≡◌, ◌≤◌, [], None, Some, false, length, option_map, IfOk, IfSome, IsErrOf, IsSome, IsTrue, OnErr, OnOk};
+ghost use Rattle.std.specs.Prelude.{◌≡◌, ◌≤◌, [], None, Some, false, length, option_map, IfOk, IfSome, IsSome, IsTrue, OnOk};
 ghost use Rattle.retro_base.specs.Limits.{longest_line};
 ghost use Rattle.retro_io.specs.Faults.{CountsFaults};
-ghost use Rattle.retro_io.specs.Flushes.{EndsWithFailedWrite, StaysUnflushed};
-ghost use Rattle.retro_io.specs.Sink.{Appends, AppendsProperPrefix};
 ghost use Rattle.workbench.specs.Reaction.{reacts_to};
 ghost use Rattle.retro_cli.specs.Audience.{answers, audience_by, follower_at, follows_to, mutes, without};
+ghost use Rattle.retro_cli.specs.Delivery.{Writes};
 ghost use Rattle.retro_cli.specs.Events.{report_line};
 ghost use Rattle.retro_cli.specs.Stop.{stops_at_write};
 
@@ -88,16 +87,12 @@ pub(crate) fn answer_by_follower<K: SendingSink>(
     answer: &mut Text,
     sink: &mut K,
 ) -> Result<bool, Stop>
-    ensures answered { IfOk result (λ refused. IfSome (follower_at (audience_by report_after followers.old) number) (λ report. (refused ≡ false)
-        × Appends (K.written sink.old) (report_line number (report [])) (K.written sink.new)
-        × (audience_by report_after followers.new ≡ without (audience_by report_after followers.old) number))) }
-    ensures part { IsErrOf result Stop.WriteFault → IfSome (follower_at (audience_by report_after followers.old) number) (λ report.
-        AppendsProperPrefix (K.written sink.old) (report_line number (report [])) (K.written sink.new)) }
-    ensures untouched { OnErr result (stops_at_write result ≡ false → sink.new ≡ sink.old) }
-    ensures unflushed { OnOk result (StaysUnflushed ⟦<K as Sink>⟧ K.sends sink.old sink.new) }
-    ensures last { IsErrOf result Stop.WriteFault → EndsWithFailedWrite ⟦<K as Sink>⟧ K.sends sink.old sink.new }
+    ensures refused { IfOk result (λ refused. refused ≡ false) }
+    ensures gone { OnOk result (IfSome (follower_at (audience_by report_after followers.old) number) (λ report.
+        audience_by report_after followers.new ≡ without (audience_by report_after followers.old) number)) }
+    ensures writes { IfSome (follower_at (audience_by report_after followers.old) number) (λ report.
+        Writes ⟦<K as Sink>⟧ K.sends (report_line number (report [])) (sink.new ≡ sink.old) sink.old sink.new result) }
     ensures sink_faults { CountsFaults (stops_at_write result) (K.faults sink.old) (K.faults sink.new) }
-    ensures reads_nothing { (IsErrOf result Stop.ReadFault → ⊥) × (IsErrOf result Stop.TooLong → ⊥) }
 {
     match follower_left(followers, number) {
         Some(follower) => write_report(number as usize, follower, answer, sink)?,

@@ -3,12 +3,11 @@
 ghost use Rattle.std.specs.Prelude.{◌≡◌, ◌≤◌, [], false, length, map};
 ghost use Rattle.retro_io.specs.Flushes.{no_sends};
 ghost use Rattle.retro_cli.specs.Audience.{audience_of};
-ghost use Rattle.retro_cli.specs.FollowedProgram.{RunsFollowed, most_followers};
+ghost use Rattle.retro_cli.specs.FollowedProgram.{EndsUnsentBy, RunsFollowed, most_followers};
 ghost use Rattle.retro_cli.specs.Forms.{form_of, is_follow};
-ghost use Rattle.retro_cli.specs.Program.{RunsAlone};
+ghost use Rattle.retro_cli.specs.Program.{EndsUnsent, RunsAlone};
 ghost use Rattle.retro_cli.specs.Run.{is_write_fault};
 ghost use Rattle.retro_cli.specs.Stop.{status_after};
-ghost use Rattle.retro_cli.specs.Unsent.{EndsUnsent, EndsUnsentBy};
 
 use crate::check::run_check;
 use crate::followed::{follow_from_start, follow_script};

@@ -1,19 +1,19 @@
 //! A script is answered, line by line.
 
-ghost use Rattle.std.specs.Prelude.{◌≡◌, [], ◌+◌, ◌-◌, ◌↔◌, ◌≤◌, false, true, IsTrue, IfOk, IfErr, OnErr, OnOk, IsErrOf, length};
+ghost use Rattle.std.specs.Prelude.{◌≡◌, [], ◌+◌, ◌↔◌, ◌≤◌, Err, false, IsTrue, IfOk, IfErr, IfSome, OnErr, OnOk, IsErrOf, length};
 ghost use Rattle.retro_base.specs.Limits.{longest_line, most_bytes};
 ghost use Rattle.retro_io.specs.Faults.{CountsFaults};
-ghost use Rattle.retro_io.specs.Sink.{Appends, AppendsProperPrefix};
-ghost use Rattle.retro_io.specs.Flushes.{EndsWithFailedSend, EndsWithFailedWrite, StaysUnflushed};
-ghost use Rattle.retro_io.specs.LineReader.{MovesOn, given, has_failed, held, limit_of, rest_of, source_of, taken};
-ghost use Rattle.retro_io.specs.Lines.{has_line_feed};
-ghost use Rattle.retro_cli.specs.Ends.{LinesStand};
-ghost use Rattle.retro_cli.specs.Audience.{HaveFollowed, audience_by, followed, follows_to, hears};
+ghost use Rattle.retro_io.specs.Flushes.{EndsWithFailedSend, StaysUnflushed};
+ghost use Rattle.retro_io.specs.LineReader.{IsUnread, MovesOn, held, limit_of, source_of, taken};
+ghost use Rattle.retro_io.specs.Lines.{has_line_feed, lines};
+ghost use Rattle.retro_cli.specs.Audience.{audience_after, audience_by, followed, follows_to, hears};
+ghost use Rattle.retro_cli.specs.Delivery.{Writes};
+ghost use Rattle.retro_cli.specs.Ends.{EndsUnflushed, ScriptStands};
 ghost use Rattle.retro_cli.specs.Events.{events_among};
-ghost use Rattle.retro_cli.specs.OutOfMemory.{AppendsAnswersOfEarlier};
-ghost use Rattle.retro_cli.specs.Causes.{HasCause};
-ghost use Rattle.retro_cli.specs.Run.{AppendsOutput, MatchesRefusal};
-ghost use Rattle.retro_cli.specs.Stop.{StopsReading, stops_at_read, stops_at_write};
+ghost use Rattle.retro_cli.specs.Promise.{HasCause};
+ghost use Rattle.retro_cli.specs.Run.{AppendsOutput};
+ghost use Rattle.retro_cli.specs.Stop.{StopsReading, status_after, stops_at_read, stops_at_write};
+ghost use Rattle.workbench.specs.Bench.{empty_bench};
 ghost use Rattle.workbench.specs.Reaction.{closing, reacts_to};
 
 use crate::MAX_BYTES;
@@ -43,15 +43,10 @@ fn answer_line<K: SendingSink>(
     requires unspent { bench.old.spent ≡ false }
     ensures answered { IfOk result (λ refused. let turn = follows_to bench.old.bench (audience_by report_after followers.old) line.now long in
         (bench.new ≡ record { bench = turn.reaction.bench; spent = false }) × (refused ≡ turn.reaction.refused)
-        × Appends (K.written sink.old) turn.reaction.answer (K.written sink.new)
         × (audience_by report_after followers.new ≡ turn.audience)) }
-    ensures part { IsErrOf result Stop.WriteFault → (let turn = follows_to bench.old.bench (audience_by report_after followers.old) line.now long in
-        AppendsProperPrefix (K.written sink.old) turn.reaction.answer (K.written sink.new)) }
-    ensures untouched { OnErr result (stops_at_write result ≡ false → sink.new ≡ sink.old) }
-    ensures unflushed { OnOk result (StaysUnflushed ⟦<K as Sink>⟧ K.sends sink.old sink.new) }
-    ensures last { IsErrOf result Stop.WriteFault → EndsWithFailedWrite ⟦<K as Sink>⟧ K.sends sink.old sink.new }
+    ensures writes { Writes ⟦<K as Sink>⟧ K.sends (follows_to bench.old.bench (audience_by report_after followers.old) line.now long).reaction.answer (sink.new ≡ sink.old)
+        sink.old sink.new result }
     ensures sink_faults { CountsFaults (stops_at_write result) (K.faults sink.old) (K.faults sink.new) }
-    ensures reads_nothing { (IsErrOf result Stop.ReadFault → ⊥) × (IsErrOf result Stop.TooLong → ⊥) }
 {
     match muted(line, long, bench, followers) {
         Some(number) => answer_by_follower(number, followers, answer, sink),
@@ -72,17 +67,11 @@ fn answer_by_bench<K: SendingSink>(
     requires full { IsTrue long → length line.now ≡ longest_line }
     requires unspent { bench.old.spent ≡ false }
     ensures answered { IfOk result (λ refused. let reaction = reacts_to bench.old.bench line.now long in
-        (bench.new ≡ record { bench = reaction.bench; spent = false }) × (refused ≡ reaction.refused)
-        × Appends (K.written sink.old) reaction.answer (K.written sink.new)) }
+        (bench.new ≡ record { bench = reaction.bench; spent = false }) × (refused ≡ reaction.refused)) }
     ensures handed { OnOk result (audience_by report_after followers.new
         ≡ hears (events_among (reacts_to bench.old.bench line.now long).answer) (audience_by report_after followers.old)) }
-    ensures part { IsErrOf result Stop.WriteFault → (let reaction = reacts_to bench.old.bench line.now long in
-        AppendsProperPrefix (K.written sink.old) reaction.answer (K.written sink.new)) }
-    ensures untouched { OnErr result (stops_at_write result ≡ false → sink.new ≡ sink.old) }
-    ensures unflushed { OnOk result (StaysUnflushed ⟦<K as Sink>⟧ K.sends sink.old sink.new) }
-    ensures last { IsErrOf result Stop.WriteFault → EndsWithFailedWrite ⟦<K as Sink>⟧ K.sends sink.old sink.new }
+    ensures writes { Writes ⟦<K as Sink>⟧ K.sends (reacts_to bench.old.bench line.now long).answer (sink.new ≡ sink.old) sink.old sink.new result }
     ensures sink_faults { CountsFaults (stops_at_write result) (K.faults sink.old) (K.faults sink.new) }
-    ensures reads_nothing { (IsErrOf result Stop.ReadFault → ⊥) × (IsErrOf result Stop.TooLong → ⊥) }
 {
     let refused = bench.line_into(line, long, answer)?;
     hand_on(answer.as_bytes(), followers)?;
@@ -97,15 +86,9 @@ fn answer_end<K: SendingSink>(
     sink: &mut K,
 ) -> Result<bool, Stop>
     requires { bench.old.spent ≡ false }
-    ensures answered { IfOk result (λ refused. let reaction = closing bench.old.bench in
-        (refused ≡ reaction.refused) × Appends (K.written sink.old) reaction.answer (K.written sink.new)) }
-    ensures part { IsErrOf result Stop.WriteFault → (let reaction = closing bench.old.bench in
-        AppendsProperPrefix (K.written sink.old) reaction.answer (K.written sink.new)) }
-    ensures untouched { OnErr result (stops_at_write result ≡ false → sink.new ≡ sink.old) }
-    ensures unflushed { OnOk result (StaysUnflushed ⟦<K as Sink>⟧ K.sends sink.old sink.new) }
-    ensures last { IsErrOf result Stop.WriteFault → EndsWithFailedWrite ⟦<K as Sink>⟧ K.sends sink.old sink.new }
+    ensures refused { IfOk result (λ refused. refused ≡ (closing bench.old.bench).refused) }
+    ensures writes { Writes ⟦<K as Sink>⟧ K.sends (closing bench.old.bench).answer (sink.new ≡ sink.old) sink.old sink.new result }
     ensures sink_faults { CountsFaults (stops_at_write result) (K.faults sink.old) (K.faults sink.new) }
-    ensures reads_nothing { (IsErrOf result Stop.ReadFault → ⊥) × (IsErrOf result Stop.TooLong → ⊥) }
 {
     let refused = bench.end_into(answer)?;
     append(answer.as_bytes(), sink)?;
@@ -139,18 +122,15 @@ fn answer_lines<S: Source, K: SendingSink>(
     followers: &mut [Option<Box<dyn Follower>>],
     sink: &mut K,
 ) -> Result<bool, Stop>
-    requires open { has_failed reader.old.reader ≡ false }
-    requires fresh { held reader.old.reader ≡ [] }
+    requires unread { IsUnread reader.old.reader }
+    requires limit { limit_of reader.old.reader ≡ most_bytes }
     ensures moves { MovesOn reader.old.reader reader.new.reader }
-    ensures ended { OnOk result (S.ended (source_of reader.new.reader) ≡ true) }
-    ensures output { OnOk result (AppendsOutput (followed (audience_by report_after followers.old)) (rest_of reader.old.reader) (K.written sink.old) (K.written sink.new)) }
-    ensures refusal { IfOk result (MatchesRefusal (followed (audience_by report_after followers.old)) (rest_of reader.old.reader)) }
-    ensures handed { OnOk result (HaveFollowed (rest_of reader.old.reader) (audience_by report_after followers.old) (audience_by report_after followers.new)) }
-    ensures unflushed { OnOk result (StaysUnflushed ⟦<K as Sink>⟧ K.sends sink.old sink.new) }
-    ensures stands { IfErr result (LinesStand ⟦<K as Sink>⟧ K.sends (followed (audience_by report_after followers.old)) (rest_of reader.old.reader) (S.left (source_of reader.new.reader)) sink.old sink.new
-        (limit_of reader.old.reader - given reader.old.reader)) }
-    ensures earlier { IsErrOf result Stop.NoMemory → AppendsAnswersOfEarlier ⟦<S as Source>⟧ (followed (audience_by report_after followers.old)) (source_of reader.old.reader) (source_of reader.new.reader)
-        (S.left (source_of reader.old.reader)) (S.left (source_of reader.new.reader)) (K.written sink.old) (K.written sink.new) }
+    ensures answered { IfOk result (EndsUnflushed ⟦<S as Source>⟧ ⟦<K as Sink>⟧ K.sends (followed (audience_by report_after followers.old))
+        (source_of reader.old.reader) (source_of reader.new.reader) sink.old sink.new (AppendsOutput (followed (audience_by report_after followers.old)))) }
+    ensures handed { OnOk result (IfSome (S.left (source_of reader.old.reader)) (λ bytes. audience_by report_after followers.new
+        ≡ audience_after empty_bench (audience_by report_after followers.old) (lines bytes))) }
+    ensures stands { IfErr result (λ stop. ScriptStands ⟦<S as Source>⟧ ⟦<K as Sink>⟧ K.sends (followed (audience_by report_after followers.old))
+        (source_of reader.old.reader) (source_of reader.new.reader) sink.old sink.new (status_after (Err stop))) }
     ensures source_faults { CountsFaults (stops_at_read result) (S.faults (source_of reader.old.reader)) (S.faults (source_of reader.new.reader)) }
     ensures sink_faults { CountsFaults (stops_at_write result) (K.faults sink.old) (K.faults sink.new) }
     ensures too_long { IsErrOf result Stop.TooLong ↔ (taken reader.new.reader ≡ limit_of reader.new.reader + 1) }
@@ -180,14 +160,12 @@ pub(crate) fn answer_source<S: Source, K: SendingSink>(
     followers: &mut [Option<Box<dyn Follower>>],
     sink: &mut K,
 ) -> Result<bool, Stop>
-    ensures ended { OnOk result (S.ended source.new ≡ true) }
-    ensures output { OnOk result (AppendsOutput (followed (audience_by report_after followers.old)) (S.left source.old) (K.written sink.old) (K.written sink.new)) }
-    ensures refusal { IfOk result (MatchesRefusal (followed (audience_by report_after followers.old)) (S.left source.old)) }
-    ensures handed { OnOk result (HaveFollowed (S.left source.old) (audience_by report_after followers.old) (audience_by report_after followers.new)) }
-    ensures unflushed { OnOk result (StaysUnflushed ⟦<K as Sink>⟧ K.sends sink.old sink.new) }
-    ensures stands { IfErr result (LinesStand ⟦<K as Sink>⟧ K.sends (followed (audience_by report_after followers.old)) (S.left source.old) (S.left source.new) sink.old sink.new most_bytes) }
-    ensures earlier { IsErrOf result Stop.NoMemory → AppendsAnswersOfEarlier ⟦<S as Source>⟧ (followed (audience_by report_after followers.old)) source.old source.new (S.left source.old) (S.left source.new)
-        (K.written sink.old) (K.written sink.new) }
+    ensures answered { IfOk result (EndsUnflushed ⟦<S as Source>⟧ ⟦<K as Sink>⟧ K.sends (followed (audience_by report_after followers.old))
+        source.old source.new sink.old sink.new (AppendsOutput (followed (audience_by report_after followers.old)))) }
+    ensures handed { OnOk result (IfSome (S.left source.old) (λ bytes. audience_by report_after followers.new
+        ≡ audience_after empty_bench (audience_by report_after followers.old) (lines bytes))) }
+    ensures stands { IfErr result (λ stop. ScriptStands ⟦<S as Source>⟧ ⟦<K as Sink>⟧ K.sends (followed (audience_by report_after followers.old))
+        source.old source.new sink.old sink.new (status_after (Err stop))) }
     ensures cause { HasCause ⟦<S as Source>⟧ ⟦<K as Sink>⟧ source.old source.new sink.old sink.new result }
     ensures sent { IfErr result (λ stop. StopsReading stop → K.waiting sink.new ≡ []) }
 {

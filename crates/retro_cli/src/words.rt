@@ -15,12 +15,11 @@ pub struct Words {
 }
 
 impl Model for Words {
-    ghost use Rattle.std.specs.Prelude.{ℕ, List, ◌<◌, ◌^◌, length};
-    ghost use Rattle.retro_cli.specs.Words.{bytes_of};
+    ghost use Rattle.std.specs.Prelude.{ℕ, List, ◌<◌, ◌^◌, length, map};
 
     ghost Value = { List (List ℕ) };
 
-    ghost view = { λ w. bytes_of w.words.items };
+    ghost view = { λ w. map (λ word. word.items) w.words.items };
 
     ghost invariant = { λ w. length w.words.items < 2 ^ 32 };
 }

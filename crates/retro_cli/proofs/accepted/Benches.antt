@@ -1,5 +1,5 @@
 -- The judge of what a bench has written takes the answer to each line, and to the end of the input.
-use Rattle.std.proofs.Common.{◌≡◌, ℕ, ◌<◌, ◌≤◌, Bool, true, false, not, ◌&&◌, cond, List, [], length, refl, Option, Some, None, Result, Ok, Err}
+use Rattle.std.proofs.Common.{◌≡◌, ℕ, ◌<◌, ◌≤◌, Bool, true, false, not, ◌&&◌, cond, List, [], length, refl, Option, Some, None, Result, Ok, Err, arith}
 use Rattle.std.specs.Prelude.{IfOk}
 use Rattle.retro_base.specs.declared.kind.Kind.{Kind}
 use Rattle.retro_base.specs.declared.kind.Kind.TheVariants.{Queue, Stack, Deque, Dict, Pq}
@@ -25,35 +25,28 @@ use Rattle.workbench.specs.Reaction.{BenchEffect, Effect, closes, ends, happens,
 use Rattle.workbench.specs.TimelineEffects.{answers, answers_fate, changes, deletes, inserts, moves, redoes, saves, unchanged, undoes}
 use Rattle.workbench.specs.Reported.{appends_from, loaded, loaded_evidence}
 use Rattle.retro_cli.proofs.accepted.Blocks.{IsGoodBlock, begun_is_good, good_loaded, sound_closed, taken_good}
-use Rattle.retro_cli.proofs.accepted.Effects.{answer_stays, delete_stays, fate_stays, insert_stays, move_stays, change_stays, put_same, redo_stays, save_stays, reported_rows, undo_stays}
-use Rattle.retro_cli.proofs.accepted.Passing.{accepted_passes, refusal_passes, silent_passes}
+use Rattle.retro_cli.proofs.accepted.Effects.{delete_stays, insert_stays, move_stays, change_stays, redo_stays, reported_rows, stays_as_it_was, undo_stays}
+use Rattle.retro_cli.proofs.accepted.Passing.{accepted_passes, answer_passes, fate_passes, refusal_passes, saved_passes, silent_passes}
 use Rattle.retro_cli.proofs.accepted.Made.{IsSound, appends_made}
 use Rattle.retro_cli.proofs.accepted.Printable.{NamesTimeline}
 use Rattle.retro_cli.proofs.accepted.ReadLines.{Reads, reads-append, reads_nothing}
 use Rattle.retro_cli.proofs.accepted.Spelled.{IsSpelled, command_is_spelled}
-use Rattle.retro_cli.proofs.accepted.Telling.{Agrees, HasReported, agrees_as, is_listed, put, tells_step}
+use Rattle.retro_cli.proofs.accepted.Telling.{Agrees, HasReported, is_listed, tells_same, tells_step}
 use Rattle.retro_cli.proofs.accepted.Timelines.{AreToldOf, StayKept, comes_kept, left_kept, named_kept, startable_kept, starts_kept}
 
 -- what is wrong with a block names no timeline
 names_none : (error : BlockError) → NamesTimeline (block_refusal error)
-names_none (faults.Row place cause) = tt
-names_none faults.Full = tt
-names_none faults.Unfinished = tt
-names_none faults.Next = tt
-names_none faults.Rows = tt
+names_none error = grind arith
 
 -- the evidence of the rows of a block
 module _ (truth : EditsAreReported) (spells : EditsAreSpelled) (shifts_made : ShiftsCanBeMade) where
-  tells_nothing : (name : List ℕ) (names : List (List ℕ)) (judge : Judge) (by : List ℕ → List Row) → Agrees names by judge.reported → by name ≡ [] → HasReported names by name [] judge []
-  tells_nothing name names judge by agrees own = record { later = judge; reads = reads_nothing judge; agrees = agrees_as names by (put name [] by) judge.reported (put_same name by [] own) agrees }
-
   tells_loaded : (name : List ℕ) (kind : Kind) (next : ℕ) (rows : List Row) (names : List (List ℕ)) → length names ≤ most_timelines → is_name name ≡ true → is_listed name names ≡ true
       → IsSound kind next rows → (judge : Judge) (by : List ℕ → List Row) → Agrees names by judge.reported → by name ≡ []
       → HasReported names by name (reported_rows kind rows) judge (evidence_lines (loaded_evidence name kind rows))
-  tells_loaded name Queue next rows names few named listed sound judge by agrees own = tells_nothing name names judge by agrees own
-  tells_loaded name Stack next rows names few named listed sound judge by agrees own = tells_nothing name names judge by agrees own
-  tells_loaded name Deque next rows names few named listed sound judge by agrees own = tells_nothing name names judge by agrees own
-  tells_loaded name Dict next rows names few named listed sound judge by agrees own = tells_nothing name names judge by agrees own
+  tells_loaded name Queue next rows names few named listed sound judge by agrees own = tells_same names by name [] judge [] (reads_nothing judge) agrees own
+  tells_loaded name Stack next rows names few named listed sound judge by agrees own = tells_same names by name [] judge [] (reads_nothing judge) agrees own
+  tells_loaded name Deque next rows names few named listed sound judge by agrees own = tells_same names by name [] judge [] (reads_nothing judge) agrees own
+  tells_loaded name Dict next rows names few named listed sound judge by agrees own = tells_same names by name [] judge [] (reads_nothing judge) agrees own
   tells_loaded name Pq next rows names few named listed sound judge by agrees own =
       tells_step truth spells names few name named listed next (appends_from 0 rows) judge by [] rows agrees own (appends_made Pq next [] rows sound)
 
@@ -105,13 +98,13 @@ module _ (truth : EditsAreReported) (spells : EditsAreSpelled) (shifts_made : Sh
   obeys_kept timelines judge (Ok (Change name number op)) kept is =
       named_kept name (λ timeline. changes timeline number op) is.0 (λ timeline good. change_stays truth spells shifts_made timeline good number op is.1) timelines judge kept
   obeys_kept timelines judge (Ok (Fate name number)) kept is =
-      named_kept name (λ timeline. unchanged timeline (answers_fate timeline number)) is (λ timeline good. fate_stays truth spells shifts_made timeline good number) timelines judge kept
+      named_kept name (λ timeline. unchanged timeline (answers_fate timeline number)) is (λ timeline good. stays_as_it_was timeline (answers_fate timeline number) good (fate_passes timeline number)) timelines judge kept
   obeys_kept timelines judge (Ok (Ask name moment query)) kept is =
-      named_kept name (λ timeline. unchanged timeline (answers timeline moment query)) is (λ timeline good. answer_stays truth spells shifts_made timeline good moment query) timelines judge kept
+      named_kept name (λ timeline. unchanged timeline (answers timeline moment query)) is (λ timeline good. stays_as_it_was timeline (answers timeline moment query) good (answer_passes timeline moment query)) timelines judge kept
   obeys_kept timelines judge (Ok (Undo name)) kept is = named_kept name undoes is (λ timeline good. undo_stays truth spells shifts_made timeline good) timelines judge kept
   obeys_kept timelines judge (Ok (Redo name)) kept is = named_kept name redoes is (λ timeline good. redo_stays truth spells shifts_made timeline good) timelines judge kept
   obeys_kept timelines judge (Ok (Save name)) kept is =
-      named_kept name (λ timeline. unchanged timeline (saves timeline)) is (λ timeline good. save_stays truth spells shifts_made timeline good) timelines judge kept
+      named_kept name (λ timeline. unchanged timeline (saves timeline)) is (λ timeline good. stays_as_it_was timeline (saves timeline) good (saved_passes timeline.name timeline.kind timeline.next timeline.rows good.named)) timelines judge kept
   obeys_kept timelines judge (Ok (Mute number)) kept is =
       left_kept timelines judge (Refused (refusals.NoFollower number)) kept (refusal_passes (refusals.NoFollower number) tt)
   obeys_kept timelines judge (Ok (Header name kind next rows)) kept is = left_kept timelines judge Silent kept silent_passes

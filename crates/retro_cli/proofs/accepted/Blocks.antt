@@ -1,31 +1,37 @@
 -- The good rows of a block replay and are in range, and so does the timeline that they make.
-use Rattle.std.proofs.Common.{◌≡◌, ◌≢◌, ℕ, ◌+◌, ◌<◌, ◌≤◌, Bool, true, false, not, ◌&&◌, nat_le, nat_lt, cond, List, [], ◌∷◌, ◌++◌}
-use Rattle.std.proofs.Common.{length, refl, sym, subst, arith, length-append, Option, Some, None, option_map, Result, Ok, Err}
+use Rattle.std.proofs.Common.{◌≡◌, ℕ, ◌+◌, ◌<◌, ◌≤◌, Bool, true, false, not, ◌&&◌, nat_le, nat_lt, cond, List, [], ◌∷◌, ◌++◌, length, refl, sym, ap, subst, arith, Option, Some, None}
+use Rattle.std.proofs.Common.{option_map, Result, Ok, Err}
 use Rattle.std.specs.Prelude.{◌==◌, is_some, IfSome}
 use Rattle.std.specs.List.{AllByRecursion}
-use Rattle.std.specs.Result.{result_err, result_unwrap_or}
+use Rattle.std.specs.Result.{result_err}
 use Rattle.std.proofs.lemmas.Bool.{and_parts, eqb-false, leb-false, ltb-true, or_parts}
 use Rattle.retro_base.specs.declared.kind.Kind.{Kind}
 use Rattle.retro_base.specs.declared.row.Row.{Row}
 use Rattle.retro_base.specs.Kind.{kind_of, same_kind}
 use Rattle.retro_base.specs.Limits.{most_rows, next_limit}
 use Rattle.retro_base.specs.Name.{is_name}
-use Rattle.retro_base.specs.Replay.{fold_rows, one_later, present, run}
-use Rattle.retro_base.specs.State.{State, empty, step}
-use Rattle.retro_base.specs.Timeline.{HaveOwnNumbers, IsFresh, IsReplayable}
+use Rattle.retro_base.specs.Replay.{IsValid, present, run}
+use Rattle.retro_base.specs.State.{empty, step}
+use Rattle.retro_base.specs.Timeline.{IsFresh, IsReplayable}
 use Rattle.script_grammar.specs.BlockLines.{is_passed_over}
 use Rattle.timeline_file.specs.declared.block.BlockError.{BlockError}
 use Rattle.timeline_file.specs.declared.block.BlockError.TheVariants as errors
 use Rattle.timeline_file.specs.declared.block.RowCause.{RowCause}
 use Rattle.timeline_file.specs.declared.block.RowCause.TheVariants as causes
-use Rattle.timeline_file.specs.Block.{Block, after_row_line, are_below, begun, cause_of_row, decided, fault_of, finished, grown, has_count, has_number, last_time, row_line, taken, whole}
+use Rattle.timeline_file.specs.Block.{Block, after_row_line, are_below, begun, cause_of_row, decided, fault_of, finished, grown, has_count, has_number, last_time, row_line, taken}
+use Rattle.timeline_file.specs.Block.{whole}
 use Rattle.workbench.specs.Bench.{OpenBlock}
 use Rattle.workbench.specs.Reaction.{of_block}
 use Rattle.retro_cli.proofs.accepted.Effects.{IsGood}
 use Rattle.retro_cli.proofs.accepted.Made.{IsRanged, IsSound}
 use Rattle.retro_cli.proofs.accepted.Positions.{same_kind_is}
 use Rattle.retro_cli.proofs.accepted.Spelled.{IsRowSpelled, row_is_spelled}
-use Rattle.retro_base.specs.Outcomes.{earlier_none, later_none, same_state}
+use Rattle.retro_base.specs.OrderLaws.{all_with}
+use Rattle.retro_base.specs.Outcomes.{is_ok}
+use Rattle.retro_base.specs.ReplayableLaws.{replayable_with}
+use Rattle.retro_base.specs.lemmas.Folds.{fold_rows-last}
+use Rattle.retro_base.specs.lemmas.Replayable.{empty_replayable}
+use Rattle.std.proofs.lemmas.List.Edits.{insert_end}
 
 -- the rows of a block that is being read
 pub record IsGoodBlock (block : Block) : Type 0 where
@@ -35,29 +41,15 @@ pub record IsGoodBlock (block : Block) : Type 0 where
   pub spelled : AllByRecursion IsRowSpelled block.rows
 
 pub begun_is_good : (kind : Kind) (next : ℕ) (count : Option ℕ) → 1 ≤ next → next ≤ next_limit → IsGoodBlock (begun kind next count)
-unfolding fold_rows
-begun_is_good kind next count least most = record {
-  least = least;
-  most = most;
-  replayable = record { few = omega arith; of_kind = tt; own_numbers = tt; valid = refl };
-  spelled = tt;
-}
+begun_is_good kind next count least most = record { least = least; most = most; replayable = empty_replayable kind; spelled = tt }
 
-goes_on : (row : Row) (rows : List Row) (s e : State) → result_err (run rows s) ≡ None → is_some (step row (result_unwrap_or (run rows s) e)) ≡ true
-    → result_err (run (rows ++ row ∷ []) s) ≡ None
-unfolding fold_rows
-goes_on row [] s e valid performs =
-    elim (step row s) as (λ o. step row s ≡ o → result_err (run (row ∷ []) s) ≡ None) [
-      | None ↦ λ stops. let wrong : false ≡ true = rw stops at performs in absurd (cc)
-      | Some t ↦ λ goes. rw goes refl
-    ] refl
-goes_on row (first ∷ rows) s e valid performs =
-    elim (step first s) as (λ o. step first s ≡ o → result_err (run (first ∷ rows ++ row ∷ []) s) ≡ None) [
-      | None ↦ λ stops. let wrong : ◌≡◌ {A = Option ℕ} (Some 0) None = rw stops at valid in absurd (cc)
-      | Some t ↦ λ goes.
-          let later : is_some (step row (result_unwrap_or (one_later (fold_rows step rows t)) e)) ≡ true = rw goes at performs in
-          rw goes (later_none (fold_rows step (rows ++ row ∷ []) t) (goes_on row rows t e (earlier_none (fold_rows step rows t) (rw goes at valid))
-          (subst (λ state. is_some (step row state) ≡ true) (same_state (fold_rows step rows t) e) later)))
+-- a row that can be performed after rows that replay replays with them
+goes_on : (kind : Kind) (rows : List Row) (row : Row) → IsValid kind rows → is_some (step row (present kind rows)) ≡ true → IsValid kind (rows ++ row ∷ [])
+goes_on kind rows row valid performs =
+    let replayed = is_ok (run rows (empty kind)) valid in
+    elim (step row replayed.0) as (λ o. step row replayed.0 ≡ o → IsValid kind (rows ++ row ∷ [])) [
+      | None ↦ λ stops. let wrong : false ≡ true = rw (replayed.1, stops) at performs in absurd (cc)
+      | Some next ↦ λ goes. ap result_err (fold_rows-last step rows row (empty kind) replayed.0 next replayed.1 goes)
     ] refl
 
 -- What a good row is.
@@ -69,11 +61,7 @@ record HasNoCause (kind seen earlier performs : Bool) : Type 0 where
 no_cause : (kind seen earlier performs : Bool)
     → cond (not kind) (Some causes.Kind) (cond seen (Some causes.Number) (cond earlier (Some causes.Time) (cond performs None (Some causes.Replay)))) ≡ None
     → HasNoCause kind seen earlier performs
-no_cause true false false true none = record { of_kind = refl; unseen = refl; performed = refl }
-no_cause true false false false none = absurd (cc)
-no_cause true false true performs none = absurd (cc)
-no_cause true true earlier performs none = absurd (cc)
-no_cause false seen earlier performs none = absurd (cc)
+no_cause kind seen earlier performs none = record { of_kind = grind arith; unseen = grind arith; performed = grind arith }
 
 unseen_is_fresh : (number : ℕ) (rows : List Row) → has_number number rows ≡ false → IsFresh number rows
 unseen_is_fresh number [] none = tt
@@ -82,34 +70,21 @@ unseen_is_fresh number (row ∷ rows) none =
     (eqb-false row.number number parts.0, unseen_is_fresh number rows parts.1)
 
 pub all_then : {X : Type 0} (P : X → Type 0) (xs : List X) (x : X) → AllByRecursion P xs → P x → AllByRecursion P (xs ++ x ∷ [])
-all_then P [] x all last = (last, tt)
-all_then P (y ∷ ys) x all last = (all.0, all_then P ys x all.1 last)
-
-own_then : (rows : List Row) (row : Row) → HaveOwnNumbers rows → IsFresh row.number rows → HaveOwnNumbers (rows ++ row ∷ [])
-own_then [] row own fresh = (tt, tt)
-own_then (first ∷ rows) row own fresh = (all_then (λ r. r.number ≢ first.number) rows row own.0 (λ same. fresh.0 (sym same)), own_then rows row own.1 fresh.1)
+all_then P xs x all last = subst (AllByRecursion P) (insert_end xs x) (all_with P xs (length xs) x all last)
 
 replayable_then : (kind : Kind) (rows : List Row) (row : Row) → IsReplayable kind rows → length rows < most_rows → cause_of_row kind rows row ≡ None → IsReplayable kind (rows ++ row ∷ [])
 replayable_then kind rows row replayable room none =
     let good = no_cause (same_kind (kind_of row.op) kind) (has_number row.number rows) (nat_lt row.time (last_time rows)) (is_some (step row (present kind rows))) none in
-    record {
-      few = omega (arith, length-append rows (row ∷ []), room);
-      of_kind = all_then (λ r. kind_of r.op ≡ kind) rows row replayable.of_kind (same_kind_is (kind_of row.op) kind good.of_kind);
-      own_numbers = own_then rows row replayable.own_numbers (unseen_is_fresh row.number rows good.unseen);
-      valid = goes_on row rows (empty kind) (empty kind) replayable.valid good.performed;
-    }
+    subst (IsReplayable kind) (insert_end rows row)
+    (replayable_with kind rows (length rows) row replayable room (omega arith) (unseen_is_fresh row.number rows good.unseen) (same_kind_is (kind_of row.op) kind good.of_kind)
+    (subst (IsValid kind) (sym (insert_end rows row)) (goes_on kind rows row replayable.valid good.performed)))
 
 -- One line more.
 fault_found : (place : ℕ) (cause : Option RowCause) → option_map (errors.Row place) cause ≡ None → cause ≡ None
-fault_found place None none = refl
-fault_found place (Some cause) none = absurd (cc)
+fault_found place cause none = grind arith
 
 no_fault : (kind : Kind) (rows : List Row) (row : Row) → fault_of kind rows (Some row) ≡ None → (length rows < most_rows) × (cause_of_row kind rows row ≡ None)
-no_fault kind rows row none =
-    elim (nat_le most_rows (length rows)) as (λ b. nat_le most_rows (length rows) ≡ b → (length rows < most_rows) × (cause_of_row kind rows row ≡ None)) [
-      | true ↦ λ full. let wrong : ◌≡◌ {A = Option BlockError} (Some errors.Full) None = rw full at none in absurd (cc)
-      | false ↦ λ room. (leb-false most_rows (length rows) room, fault_found (length rows + 1) (cause_of_row kind rows row) (rw room at none))
-    ] refl
+no_fault kind rows row none = (grind arith, grind arith)
 
 grown_good : (block : Block) (line : Option Row) (fault : Option BlockError) → IsGoodBlock block → IfSome line IsRowSpelled → fault_of block.kind block.rows line ≡ fault → IsGoodBlock (grown block line fault)
 grown_good block line (Some fault) good spelled is = record { least = good.least; most = good.most; replayable = good.replayable; spelled = good.spelled }
@@ -148,21 +123,13 @@ record IsWhole (block : Block) (rows : List Row) : Type 0 where
   below : are_below block.next block.rows ≡ true
 
 counted_is : (counted : Bool) (all rows : List Row) → ◌≡◌ {A = Result (List Row) BlockError} (cond counted (Ok all) (Err errors.Rows)) (Ok rows) → all ≡ rows
-counted_is true all rows is = cc
-counted_is false all rows is = absurd (cc)
+counted_is counted all rows is = grind arith
 
 whole_is : (block : Block) (ended : Bool) (rows : List Row) → whole block ended ≡ Ok rows → IsWhole block rows
-whole_is block false rows is = absurd (cc)
-whole_is block true rows is =
-    elim (are_below block.next block.rows) as (λ b. are_below block.next block.rows ≡ b → IsWhole block rows) [
-      | true ↦ λ below.
-          record { same = counted_is (has_count block.count block.rows) block.rows rows (rw below at is); below = below }
-      | false ↦ λ out. let wrong : ◌≡◌ {A = Result (List Row) BlockError} (Err errors.Next) (Ok rows) = rw out at is in absurd (cc)
-    ] refl
+whole_is block ended rows is = record { same = grind arith; below = grind arith }
 
 decided_is : (bad : Option BlockError) (block : Block) (ended : Bool) (rows : List Row) → decided bad block ended ≡ Ok rows → IsWhole block rows
-decided_is (Some fault) block ended rows is = absurd (cc)
-decided_is None block ended rows is = whole_is block ended rows is
+decided_is bad block ended rows is = record { same = grind arith; below = grind arith }
 
 all_ranged : (next : ℕ) (rows : List Row) → AllByRecursion IsRowSpelled rows → are_below next rows ≡ true → AllByRecursion (IsRanged next) rows
 all_ranged next [] spelled below = tt

@@ -1,8 +1,7 @@
 -- What becomes of one timeline at a line: what is answered is reported truly, and the timeline stays a good one.
-use Rattle.std.proofs.Common.{◌≡◌, ◌≢◌, ℕ, ◌+◌, ◌-◌, ◌<◌, ◌≤◌, true, false, nat_le, cond, List, [], ◌∷◌, ◌++◌, length, slice_get, refl, sym, ap, ◌∙◌, subst, arith, Option, Some, None}
+use Rattle.std.proofs.Common.{◌≡◌, ℕ, ◌+◌, ◌-◌, ◌<◌, ◌≤◌, true, false, nat_le, cond, List, [], ◌∷◌, ◌++◌, length, slice_get, refl, sym, ap, ◌∙◌, subst, arith, Option, Some, None}
 use Rattle.std.specs.Prelude.{IfSome, option_map, option_and_then}
 use Rattle.std.specs.List.{insert}
-use Rattle.std.specs.Str.{bytes_eq}
 use Rattle.std.proofs.lemmas.Bool.{leb-false}
 use Rattle.retro_base.specs.declared.kind.Kind.{Kind}
 use Rattle.retro_base.specs.declared.kind.Kind.TheVariants.{Queue, Stack, Deque, Dict, Pq}
@@ -12,11 +11,8 @@ use Rattle.retro_base.specs.Edits.{Edit, Step, add, cut, edited, edited_by, inve
 use Rattle.retro_base.specs.Kind.{kind_of, same_kind}
 use Rattle.retro_base.specs.Limits.{most_rows, most_steps, most_timelines, next_limit}
 use Rattle.retro_base.specs.Name.{is_name}
-use Rattle.retro_base.specs.OrderLaws.{all_weaker, all_with, all_without}
 use Rattle.retro_base.specs.Places.{place_of_row}
 use Rattle.retro_base.specs.Replay.{IsValid, failure}
-use Rattle.retro_base.specs.ReplayableLaws.{replayable_with, replayable_without}
-use Rattle.retro_base.specs.Timeline.{IsFresh}
 use Rattle.evidence_check.specs.Judgement.{Judge}
 use Rattle.evidence_check.specs.Laws.{EditsAreSpelled, EditsAreReported}
 use Rattle.script_grammar.specs.SpellingLaws.{HasValues}
@@ -28,7 +24,8 @@ use Rattle.timeline_undo.specs.Back.{ShiftsCanBeMade}
 use Rattle.timeline_undo.specs.Shift.{IsTargetOf, shift_at, shift_of}
 use Rattle.timeline_undo.specs.declared.shift.Target.{Target}
 use Rattle.timeline_undo.specs.declared.shift.Target.TheVariants.{At, Into}
-use Rattle.retro_cli.proofs.accepted.Shifts.{HasTarget, shift_made}
+use Rattle.retro_cli.proofs.accepted.Made.{HasTarget, comes, goes, next_fresh, shift_made, IsSound, Makes, MakesStep, TakesBack, leads_to, sound_after, sound_later, step_back}
+use Rattle.retro_cli.proofs.accepted.Made.{step_later}
 use Rattle.workbench.specs.declared.outcome.Outcome.{Outcome}
 use Rattle.workbench.specs.declared.outcome.Outcome.TheVariants.{Accepted, Inserted, Refused}
 use Rattle.workbench.specs.declared.outcome.Refusal.{Refusal}
@@ -36,17 +33,15 @@ use Rattle.workbench.specs.declared.outcome.Refusal.TheVariants as refusals
 use Rattle.workbench.specs.declared.position.Position.{Position}
 use Rattle.workbench.specs.Bench.{NamedTimeline}
 use Rattle.workbench.specs.Outcome.{reply_text}
-use Rattle.workbench.specs.TimelineEffects.{TimelineEffect, accepted_or_refused, after_step, makes, shifts_there, shifts_by, shifts, moves, changes}
-use Rattle.workbench.specs.TimelineEffects.{answers, answers_fate, cut_of, deletes, deletes_by, edits, inserts, inserts_at, inserts_there, new_row}
-use Rattle.workbench.specs.TimelineEffects.{position_of, redoes, redoes_step, refusal_at, refuses, row_named, saves, unchanged, undoes, undoes_step, where_one_fits}
+use Rattle.workbench.specs.TimelineEffects.{TimelineEffect, accepted_or_refused, after_step, makes, shifts_there, shifts_by, shifts, moves, changes, answers, answers_fate, cut_of}
+use Rattle.workbench.specs.TimelineEffects.{deletes, deletes_by, edits, inserts, inserts_at, inserts_there, new_row, position_of, redoes, redoes_step, refusal_at, refuses, row_named}
+use Rattle.workbench.specs.TimelineEffects.{saves, unchanged, undoes, undoes_step, where_one_fits}
 use Rattle.workbench.specs.Reported.{evidence_of_step, reported}
 use Rattle.retro_cli.proofs.accepted.Leads.{Leads, leads_last, leads_later, leads_more, leads_so}
-use Rattle.retro_cli.proofs.accepted.Made.{IsRanged, IsSound, Makes, MakesStep, TakesBack, leads_to, sound_after, sound_later, step_back, step_later}
 use Rattle.retro_cli.proofs.accepted.Printable.{NamesTimeline}
-use Rattle.retro_cli.proofs.accepted.Telling.{Agrees, HasReported, agrees_as, is_listed, put, tells_step}
+use Rattle.retro_cli.proofs.accepted.Telling.{Agrees, HasReported, is_listed, tells_same, tells_step}
 use Rattle.retro_cli.proofs.accepted.Passing.{IsPassedOver, accepted_passes, answer_passes, fate_passes, inserted_passes, refusal_passes, saved_passes}
 use Rattle.retro_cli.proofs.accepted.Positions.{IsCutOf, cut_is, position_within, same_kind_is}
-use Rattle.retro_base.specs.Facts.{same_bytes}
 
 -- the rows of which evidence tells
 abbrev pub reported_rows : Kind → List Row → List Row
@@ -76,26 +71,16 @@ pub record StaysGood (timeline : NamedTimeline) (effect : TimelineEffect) : Type
   pub good : IsGood effect.timeline
   pub tells : TellsOf timeline effect
 
-pub put_same : (name : List ℕ) (by : List ℕ → List Row) (rows : List Row) → by name ≡ rows → (other : List ℕ) → by other ≡ put name rows by other
-put_same name by rows own other =
-    elim (bytes_eq name other) as (λ b. bytes_eq name other ≡ b → by other ≡ cond b rows (by other)) [
-      | true ↦ λ is. ap by (sym (same_bytes name other is)) ∙ own
-      | false ↦ λ apart. refl
-    ] refl
-
 names_no_timeline : (row : Option Row) → NamesTimeline (refusal_at row)
 names_no_timeline None = tt
 names_no_timeline (Some row) = tt
 
-stays_as_it_was : (timeline : NamedTimeline) (outcome : Outcome) → IsGood timeline → IsPassedOver outcome → StaysGood timeline (unchanged timeline outcome)
+pub stays_as_it_was : (timeline : NamedTimeline) (outcome : Outcome) → IsGood timeline → IsPassedOver outcome → StaysGood timeline (unchanged timeline outcome)
 stays_as_it_was timeline outcome good passes = record {
   same_name = refl;
   good = good;
-  tells = λ names few listed judge by agrees own. record {
-    later = judge;
-    reads = passes judge;
-    agrees = agrees_as names by (put timeline.name (reported_rows timeline.kind timeline.rows) by) judge.reported (put_same timeline.name by (reported_rows timeline.kind timeline.rows) own) agrees;
-  };
+  tells = λ names few listed judge by agrees own.
+      tells_same names by timeline.name (reported_rows timeline.kind timeline.rows) judge (reply_text outcome) (passes judge) agrees own;
 }
 
 refused_stays : (timeline : NamedTimeline) (refusal : Refusal) → IsGood timeline → NamesTimeline refusal → StaysGood timeline (refuses timeline refusal)
@@ -104,30 +89,19 @@ refused_stays timeline refusal good named = stays_as_it_was timeline (Refused re
 -- A step that is made.
 module _ (truth : EditsAreReported) (spells : EditsAreSpelled) (shifts_made : ShiftsCanBeMade) where
   module _ (names : List (List ℕ)) (few : length names ≤ most_timelines) (name : List ℕ) (named : is_name name ≡ true) (listed : is_listed name names ≡ true) where
-    tells_other : (judge : Judge) (by : List ℕ → List Row) (plain : Outcome) → IsPassedOver plain → Agrees names by judge.reported → by name ≡ [] → HasReported names by name [] judge (reply_text plain)
-    tells_other judge by plain passes agrees own = record {
-      later = judge;
-      reads = passes judge;
-      agrees = agrees_as names by (put name [] by) judge.reported (put_same name by [] own) agrees;
-    }
-
     tells_pq : (next : ℕ) (step : Step) (judge : Judge) (by : List ℕ → List Row) (rows after : List Row) (plain : Outcome) → IsPassedOver plain → Agrees names by judge.reported → by name ≡ rows
         → MakesStep Pq next rows step after → HasReported names by name after judge (reply_text (reported name Pq rows step plain))
     unfolding evidence_of_step
-    tells_pq next [] judge by rows after plain passes agrees own made = record {
-      later = judge;
-      reads = passes judge;
-      agrees = agrees_as names by (put name after by) judge.reported (put_same name by after (own ∙ made)) agrees;
-    }
+    tells_pq next [] judge by rows after plain passes agrees own made = tells_same names by name after judge (reply_text plain) (passes judge) agrees (own ∙ made)
     tells_pq next (edit ∷ step) judge by rows after plain passes agrees own made =
         tells_step truth spells names few name named listed next (edit ∷ step) judge by rows after agrees own made
 
     pub tells_made : (kind : Kind) (next : ℕ) (step : Step) (judge : Judge) (by : List ℕ → List Row) (rows after : List Row) (plain : Outcome) → IsPassedOver plain → Agrees names by judge.reported
         → by name ≡ reported_rows kind rows → MakesStep kind next rows step after → HasReported names by name (reported_rows kind after) judge (reply_text (reported name kind rows step plain))
-    tells_made Queue next step judge by rows after plain passes agrees own made = tells_other judge by plain passes agrees own
-    tells_made Stack next step judge by rows after plain passes agrees own made = tells_other judge by plain passes agrees own
-    tells_made Deque next step judge by rows after plain passes agrees own made = tells_other judge by plain passes agrees own
-    tells_made Dict next step judge by rows after plain passes agrees own made = tells_other judge by plain passes agrees own
+    tells_made Queue next step judge by rows after plain passes agrees own made = tells_same names by name [] judge (reply_text plain) (passes judge) agrees own
+    tells_made Stack next step judge by rows after plain passes agrees own made = tells_same names by name [] judge (reply_text plain) (passes judge) agrees own
+    tells_made Deque next step judge by rows after plain passes agrees own made = tells_same names by name [] judge (reply_text plain) (passes judge) agrees own
+    tells_made Dict next step judge by rows after plain passes agrees own made = tells_same names by name [] judge (reply_text plain) (passes judge) agrees own
     tells_made Pq next step judge by rows after plain passes agrees own made = tells_pq next step judge by rows after plain passes agrees own made
 
   -- an accepted edit, where this number comes next
@@ -179,18 +153,9 @@ module _ (truth : EditsAreReported) (spells : EditsAreSpelled) (shifts_made : Sh
         → IsValid timeline.kind (insert timeline.rows position.place (new_row timeline position op))
         → Makes timeline.kind (timeline.next + 1) timeline.rows (add position.place (new_row timeline position op)) (insert timeline.rows position.place (new_row timeline position op))
     new_row_made position op kind values within room below valid =
-        let row : Row = new_row timeline position op in
-        let fresh : IsFresh row.number timeline.rows = all_weaker (IsRanged timeline.next) (λ r. r.number ≢ timeline.next) timeline.rows (λ r range same. omega (arith, range.0, same)) good.sound.ranged in
-        let before : IsSound timeline.kind (timeline.next + 1) timeline.rows = sound_later timeline.kind timeline.next (timeline.next + 1) (omega arith) timeline.rows good.sound in
-        record {
-          before = before;
-          within = within;
-          leads = refl;
-          later = record {
-            replayable = replayable_with timeline.kind timeline.rows position.place row good.sound.replayable room within fresh kind valid;
-            ranged = all_with (IsRanged (timeline.next + 1)) timeline.rows position.place row before.ranged (omega arith, (good.least, below), values);
-          };
-        }
+        comes timeline.kind timeline.rows timeline.next position.place (new_row timeline position op)
+        (sound_later timeline.kind timeline.next (timeline.next + 1) (omega arith) timeline.rows good.sound) (next_fresh timeline.kind timeline.rows timeline.next good.sound)
+        good.least below room refl kind values within valid
 
     -- where a row and a number more fit
     one_fits : (effect : TimelineEffect) → (length timeline.rows < most_rows → timeline.next < next_limit → StaysGood timeline effect) → StaysGood timeline (where_one_fits timeline effect)
@@ -232,15 +197,7 @@ module _ (truth : EditsAreReported) (spells : EditsAreSpelled) (shifts_made : Sh
     delete_by number (Some (add place row)) is = absurd is
     delete_by number (Some (cut place row)) is =
         edit_stays (cut place row) timeline.next Accepted accepted_passes (omega arith) good.most
-        (λ valid. record {
-          before = good.sound;
-          within = is;
-          leads = refl;
-          later = record {
-            replayable = replayable_without timeline.kind timeline.rows place good.sound.replayable valid;
-            ranged = all_without (IsRanged timeline.next) timeline.rows place good.sound.ranged;
-          };
-        })
+        (goes timeline.kind timeline.rows timeline.next place row good.sound is)
 
     pub delete_stays : (number : ℕ) → StaysGood timeline (deletes timeline number)
     unfolding deletes
@@ -346,13 +303,3 @@ module _ (truth : EditsAreReported) (spells : EditsAreSpelled) (shifts_made : Sh
     pub redo_stays : StaysGood timeline (redoes timeline)
     unfolding redoes
     redo_stays = redo_step (newest_step timeline.history.redo) refl
-
-    -- a question, a fate, and the saved text
-    pub answer_stays : (moment : Moment) (query : Query) → StaysGood timeline (unchanged timeline (answers timeline moment query))
-    answer_stays moment query = stays_as_it_was timeline (answers timeline moment query) good (answer_passes timeline moment query)
-
-    pub fate_stays : (number : ℕ) → StaysGood timeline (unchanged timeline (answers_fate timeline number))
-    fate_stays number = stays_as_it_was timeline (answers_fate timeline number) good (fate_passes timeline number)
-
-    pub save_stays : StaysGood timeline (unchanged timeline (saves timeline))
-    save_stays = stays_as_it_was timeline (saves timeline) good (saved_passes timeline.name timeline.kind timeline.next timeline.rows good.named)

@@ -1,7 +1,8 @@
 -- Edits that are made one after another, each in rows that replay and are in range, and each leading to such rows.
-use Rattle.std.proofs.Common.{◌≡◌, ◌≢◌, ℕ, suc, ◌<◌, ◌≤◌, List, [], ◌∷◌, ◌++◌, length, ℤ, pos, negsuc, sym, ap, ◌∙◌, subst, arith, append_assoc, append-nil, length-append}
-use Rattle.std.specs.List.{AllByRecursion}
-use Rattle.std.proofs.lemmas.List.Edits.{insert_end, length-insert}
+use Rattle.std.proofs.Common.{◌≡◌, ℕ, suc, ◌<◌, ◌≤◌, List, [], ◌∷◌, ◌++◌, length, ℤ, pos, negsuc, sym, ap, ◌∙◌, subst, arith, append_assoc, append-nil, length-append, ◌≢◌, ◌+◌, true}
+use Rattle.std.proofs.Common.{false, slice_get, Some, refl}
+use Rattle.std.specs.List.{AllByRecursion, insert, remove}
+use Rattle.std.proofs.lemmas.List.Edits.{insert_end, length-insert, length-remove}
 use Rattle.std.proofs.Math.Seq.{take-append_seam}
 use Rattle.retro_base.specs.declared.kind.Kind.{Kind}
 use Rattle.retro_base.specs.declared.kind.Kind.TheVariants.{Pq}
@@ -9,20 +10,29 @@ use Rattle.retro_base.specs.declared.op.Op.{Op}
 use Rattle.retro_base.specs.declared.op.Op.TheVariants.{Enq, Deq, Push, Pop, PushL, PushR, PopL, PopR, Put, Del, Ins, DelMin}
 use Rattle.retro_base.specs.declared.row.Row.{Row}
 use Rattle.retro_base.specs.Carried.{IsPqEdit}
-use Rattle.retro_base.specs.EditedLists.{can_go_back, there_and_back}
+use Rattle.retro_base.specs.EditedLists.{can_go_back, there_and_back, remove-insert}
 use Rattle.retro_base.specs.Edits.{Edit, Step, add, cut, edited, edited_by, inverse, inverse_step, IsAccepted, IsWithin}
-use Rattle.retro_base.specs.Kind.{kind_of}
-use Rattle.retro_base.specs.Limits.{most_rows}
+use Rattle.retro_base.specs.Kind.{kind_of, adds}
+use Rattle.retro_base.specs.Limits.{most_rows, next_limit}
 use Rattle.retro_base.specs.MadeEdits.{all_inserted, adds_own_row}
-use Rattle.retro_base.specs.OrderLaws.{all_at, all_weaker}
-use Rattle.retro_base.specs.PrefixLaws.{valid_take}
-use Rattle.retro_base.specs.Replay.{IsValid}
-use Rattle.retro_base.specs.Timeline.{AreOfKind, HaveOwnNumbers, IsReplayable}
+use Rattle.retro_base.specs.OrderLaws.{all_at, all_weaker, all_with, all_without}
+use Rattle.retro_base.specs.Timeline.{AreOfKind, IsReplayable, IsFresh}
+use Rattle.retro_base.specs.lemmas.FirstRows.{replayable_first}
+use Rattle.retro_base.specs.lemmas.Replayable.{all_before}
 use Rattle.evidence.specs.Evidence.{IsPqOp, IsRowNumber, IsValue}
 use Rattle.evidence_check.specs.Laws.{HasRoom, IsInRange, edit_row}
 use Rattle.script_grammar.specs.SpellingLaws as grammar
 use Rattle.workbench.specs.Reported.{appends_from}
 use Rattle.retro_cli.proofs.accepted.Leads.{Leads, leads_back, leads_so}
+use Rattle.retro_base.specs.Replay.{IsValid}
+use Rattle.retro_base.specs.ReplayableLaws.{replayable_with, replayable_without}
+use Rattle.retro_base.specs.lemmas.GivingEdits.{adding_row_replays, taking_row_can_go}
+use Rattle.script_grammar.specs.SpellingLaws.{HasValues}
+use Rattle.timeline_undo.specs.Back.{CanBeMade, ShiftsCanBeMade}
+use Rattle.timeline_undo.specs.Shift.{IsTargetOf, index_after, place_for, replacing, put_then_cut, cut_then_put, shift_of}
+use Rattle.timeline_undo.specs.declared.shift.Target.{Target}
+use Rattle.timeline_undo.specs.declared.shift.Target.TheVariants.{At, Into}
+use Rattle.std.proofs.lemmas.Option.{slice_get_within}
 
 -- a row with values of 64 bits and a number that a row can have, below the next one
 abbrev pub IsRanged : ℕ → Row → Type 0
@@ -77,15 +87,11 @@ makes_back kind next from to edit made = record {
 pub step_back : (kind : Kind) (next : ℕ) (from to : List Row) (step : Step) → MakesStep kind next from step to → MakesStep kind next to (inverse_step step) from
 step_back kind next from to step made = leads_back (Makes kind next) inverse (λ a b edit one. makes_back kind next a b edit one) step from to made
 
--- a step leads to the edited rows, and both ends are sound where one is
+-- a step leads to the edited rows, which are sound where those before it are
 pub leads_to : (kind : Kind) (next : ℕ) (step : Step) (from to : List Row) → MakesStep kind next from step to → edited_by from step ≡ to
 leads_to kind next [] from to made = made
 leads_to kind next (edit ∷ step) from to made =
     ap (λ rows. edited_by rows step) made.1.leads ∙ leads_to kind next step made.0 to made.2
-
-pub sound_before : (kind : Kind) (next : ℕ) (step : Step) (from to : List Row) → MakesStep kind next from step to → IsSound kind next to → IsSound kind next from
-sound_before kind next [] from to made sound = subst (IsSound kind next) (sym made) sound
-sound_before kind next (edit ∷ step) from to made sound = made.1.before
 
 pub sound_after : (kind : Kind) (next : ℕ) (step : Step) (from to : List Row) → MakesStep kind next from step to → IsSound kind next from → IsSound kind next to
 sound_after kind next [] from to made sound = subst (IsSound kind next) made sound
@@ -93,22 +99,10 @@ sound_after kind next (edit ∷ step) from to made sound = sound_after kind next
 
 -- An edit of a priority queue that is made can be told.
 value_in_range : (v : ℤ) → grammar.IsValue v → IsValue v
-value_in_range (pos n) is = is
-value_in_range (negsuc n) is = is
+value_in_range v is = grind arith
 
 pq_in_range : (op : Op) → kind_of op ≡ Pq → grammar.HasValues op → IsPqOp op
-pq_in_range (Enq v) kind values = absurd (cc)
-pq_in_range Deq kind values = absurd (cc)
-pq_in_range (Push v) kind values = absurd (cc)
-pq_in_range Pop kind values = absurd (cc)
-pq_in_range (PushL v) kind values = absurd (cc)
-pq_in_range (PushR v) kind values = absurd (cc)
-pq_in_range PopL kind values = absurd (cc)
-pq_in_range PopR kind values = absurd (cc)
-pq_in_range (Put k v) kind values = absurd (cc)
-pq_in_range (Del k) kind values = absurd (cc)
-pq_in_range (Ins key) kind values = value_in_range key values
-pq_in_range DelMin kind values = tt
+pq_in_range op kind values = grind arith
 
 in_range : (next : ℕ) (row : Row) → kind_of row.op ≡ Pq → IsRanged next row → IsInRange row
 in_range next row kind range = (range.1, pq_in_range row.op kind range.2)
@@ -124,8 +118,7 @@ row_in_range next rows (cut place row) before within after =
     in_range next row (all_at (λ r. kind_of r.op ≡ Pq) rows place row before.replayable.of_kind within) (all_at (IsRanged next) rows place row before.ranged within)
 
 room_for : (rows : List Row) (edit : Edit) → IsWithin rows edit → length (edited rows edit) ≤ most_rows → HasRoom rows edit
-room_for rows (add place row) within few = omega (arith, length-insert rows place row within)
-room_for rows (cut place row) within few = tt
+room_for rows edit within few = grind (arith, length-insert)
 
 -- all that the laws of evidence ask for
 pub record CanBeReported (rows : List Row) (edit : Edit) : Type 0 where
@@ -153,24 +146,12 @@ can_be_reported next rows after edit made =
     }
 
 -- The first of sound rows are sound, so rows can be put in one after another.
-all_front : {X : Type 0} (P : X → Type 0) (front back : List X) → AllByRecursion P (front ++ back) → AllByRecursion P front
-all_front P [] back all = tt
-all_front P (x ∷ front) back all = (all.0, all_front P front back all.1)
-
-own_front : (front back : List Row) → HaveOwnNumbers (front ++ back) → HaveOwnNumbers front
-own_front [] back own = tt
-own_front (row ∷ front) back own = (all_front (λ r. r.number ≢ row.number) front back own.0, own_front front back own.1)
-
 sound_front : (kind : Kind) (next : ℕ) (front back : List Row) → IsSound kind next (front ++ back) → IsSound kind next front
-sound_front kind next front back sound = record {
-  replayable = record {
-    few = omega (arith, length-append front back, sound.replayable.few);
-    of_kind = all_front (λ r. kind_of r.op ≡ kind) front back sound.replayable.of_kind;
-    own_numbers = own_front front back sound.replayable.own_numbers;
-    valid = subst (IsValid kind) (take-append_seam front back) (valid_take kind (front ++ back) (length front) sound.replayable.valid);
-  };
-  ranged = all_front (IsRanged next) front back sound.ranged;
-}
+sound_front kind next front back sound =
+    subst (IsSound kind next) (take-append_seam front back) (record {
+      replayable = replayable_first kind (front ++ back) (length front) sound.replayable;
+      ranged = all_before (IsRanged next) (front ++ back) (length front) sound.ranged;
+    })
 
 pub appends_made : (kind : Kind) (next : ℕ) (before more : List Row) → IsSound kind next (before ++ more)
     → MakesStep kind next before (appends_from (length before) more) (before ++ more)
@@ -191,3 +172,123 @@ appends_made kind next before (row ∷ more) sound =
       subst (λ n. MakesStep kind next (before ++ row ∷ []) (appends_from n more) (before ++ row ∷ more)) longer
           (subst (MakesStep kind next (before ++ row ∷ []) (appends_from (length (before ++ row ∷ [])) more)) same rest),
     )
+
+-- what a row becomes has values of 64 bits
+abbrev pub HasTarget : Target → Type 0
+HasTarget (At time) = Unit {0}
+HasTarget (Into op) = HasValues op
+
+-- a row of sound rows may be replaced
+pub record MayReplace (kind : Kind) (rows : List Row) (next : ℕ) (target : Target) (index : ℕ) (old : Row) : Type 0 where
+  pub sound : IsSound kind next rows
+  pub least : 1 ≤ next
+  pub room : length rows < most_rows
+  pub below : next < next_limit
+  pub of_kind : IsTargetOf kind target
+  pub values : HasTarget target
+  pub there : slice_get rows index ≡ Some old
+
+drawn_number : (target : Target) (number : ℕ) (old : Row) → (replacing target number old).number ≡ number
+drawn_number target number old = grind arith
+
+new_of_kind : (kind : Kind) (target : Target) (number : ℕ) (old : Row) → kind_of old.op ≡ kind → IsTargetOf kind target → kind_of (replacing target number old).op ≡ kind
+new_of_kind kind target number old was here = grind arith
+
+new_values : (target : Target) (number : ℕ) (old : Row) → HasValues old.op → HasTarget target → HasValues (replacing target number old).op
+new_values (At time) number old had has = had
+new_values (Into op) number old had has = has
+
+-- no row of sound rows has the next number
+pub next_fresh : (kind : Kind) (rows : List Row) (next : ℕ) → IsSound kind next rows → IsFresh next rows
+next_fresh kind rows next sound = all_weaker (IsRanged next) (λ r. r.number ≢ next) rows (λ r range same. omega (arith, range.0, same)) sound.ranged
+
+-- a row with the next number comes into sound rows, and a row goes out of them
+pub comes : (kind : Kind) (rows : List Row) (next place : ℕ) (new : Row) → IsSound kind (next + 1) rows → IsFresh next rows → 1 ≤ next → next < next_limit → length rows < most_rows
+    → new.number ≡ next → kind_of new.op ≡ kind → HasValues new.op → place ≤ length rows → IsValid kind (insert rows place new)
+    → Makes kind (next + 1) rows (add place new) (insert rows place new)
+comes kind rows next place new sound fresh least below room drawn here values within valid = record {
+  before = sound;
+  within = within;
+  leads = refl;
+  later = record {
+    replayable = replayable_with kind rows place new sound.replayable room within (subst (λ n. IsFresh n rows) (sym drawn) fresh) here valid;
+    ranged = all_with (IsRanged (next + 1)) rows place new sound.ranged (omega (arith, drawn), (omega (arith, drawn, least), omega (arith, drawn, below)), values);
+  };
+}
+
+pub goes : (kind : Kind) (rows : List Row) (next index : ℕ) (old : Row) → IsSound kind next rows → slice_get rows index ≡ Some old → IsValid kind (remove rows index)
+    → Makes kind next rows (cut index old) (remove rows index)
+goes kind rows next index old sound there valid = record {
+  before = sound;
+  within = there;
+  leads = refl;
+  later = record {
+    replayable = replayable_without kind rows index sound.replayable valid;
+    ranged = all_without (IsRanged next) rows index sound.ranged;
+  };
+}
+
+module _ (shifts : ShiftsCanBeMade) (kind : Kind) (rows : List Row) (next : ℕ) (target : Target) (index : ℕ) (old : Row) (may : MayReplace kind rows next target index old) where
+  here : kind_of (replacing target next old).op ≡ kind
+  here = new_of_kind kind target next old (all_at (λ (r : Row). kind_of r.op ≡ kind) rows index old may.sound.replayable.of_kind may.there) may.of_kind
+
+  values : HasValues (replacing target next old).op
+  values = new_values target next old (all_at (IsRanged next) rows index old may.sound.ranged may.there).2 may.values
+
+  fresh : IsFresh next rows
+  fresh = next_fresh kind rows next may.sound
+
+  lifted : IsSound kind (next + 1) rows
+  lifted = sound_later kind next (next + 1) (omega arith) rows may.sound
+
+  put_made : adds (replacing target next old).op ≡ true → CanBeMade rows (put_then_cut (place_for target index rows) (replacing target next old) index old)
+      → IsValid kind (edited_by rows (put_then_cut (place_for target index rows) (replacing target next old) index old))
+      → MakesStep kind (next + 1) rows (put_then_cut (place_for target index rows) (replacing target next old) index old)
+      (edited_by rows (put_then_cut (place_for target index rows) (replacing target next old) index old))
+  put_made adding within valid =
+      let put = place_for target index rows in
+      let new : Row = replacing target next old in
+      let middle : List Row = insert rows put new in
+      let first : Makes kind (next + 1) rows (add put new) middle =
+      comes kind rows next put new lifted fresh may.least may.below may.room (drawn_number target next old) here values within.0
+      (adding_row_replays kind rows put new may.sound.replayable.of_kind may.sound.replayable.valid here adding) in
+      (middle, first, (remove middle (index_after put index), goes kind middle (next + 1) (index_after put index) old first.later within.1.0 valid, refl))
+
+  cut_made : adds (replacing target next old).op ≡ false → CanBeMade rows (cut_then_put index old (place_for target index (remove rows index)) (replacing target next old))
+      → IsValid kind (edited_by rows (cut_then_put index old (place_for target index (remove rows index)) (replacing target next old)))
+      → MakesStep kind (next + 1) rows (cut_then_put index old (place_for target index (remove rows index)) (replacing target next old))
+      (edited_by rows (cut_then_put index old (place_for target index (remove rows index)) (replacing target next old)))
+  cut_made taking within valid =
+      let middle : List Row = remove rows index in
+      let put = place_for target index middle in
+      let new : Row = replacing target next old in
+      let all = all_with (λ (r : Row). kind_of r.op ≡ kind) middle put new (all_without (λ (r : Row). kind_of r.op ≡ kind) rows index may.sound.replayable.of_kind) here in
+      let middle_valid : IsValid kind middle =
+      subst (IsValid kind) (remove-insert middle put new within.1.0)
+      (taking_row_can_go kind (insert middle put new) put new all valid (can_go_back middle (add put new) within.1.0) taking) in
+      let first : Makes kind (next + 1) rows (cut index old) middle = goes kind rows (next + 1) index old lifted may.there middle_valid in
+      let fewer : length middle < most_rows = omega (arith, length-remove rows index (slice_get_within rows index old may.there), may.room) in (
+        middle,
+        first,
+        (
+          insert middle put new,
+          comes kind middle next put new first.later (all_without (λ (r : Row). r.number ≢ next) rows index fresh) may.least may.below fewer
+              (drawn_number target next old) here values within.1.0 valid,
+          refl,
+        ),
+      )
+
+  pub shift_made : IsValid kind (edited_by rows (shift_of rows target next index old))
+      → MakesStep kind (next + 1) rows (shift_of rows target next index old) (edited_by rows (shift_of rows target next index old))
+  shift_made valid =
+      elim (adds (replacing target next old).op) as (λ b. adds (replacing target next old).op ≡ b
+      → MakesStep kind (next + 1) rows (shift_of rows target next index old) (edited_by rows (shift_of rows target next index old))) [
+        | true ↦ λ adding.
+            let is : shift_of rows target next index old ≡ put_then_cut (place_for target index rows) (replacing target next old) index old = rw adding refl in
+            subst (λ step. MakesStep kind (next + 1) rows step (edited_by rows step)) (sym is)
+            (put_made adding (subst (CanBeMade rows) is (shifts rows target next index old may.there)) (subst (λ step. IsValid kind (edited_by rows step)) is valid))
+        | false ↦ λ taking.
+            let is : shift_of rows target next index old ≡ cut_then_put index old (place_for target index (remove rows index)) (replacing target next old) = rw taking refl in
+            subst (λ step. MakesStep kind (next + 1) rows step (edited_by rows step)) (sym is)
+            (cut_made taking (subst (CanBeMade rows) is (shifts rows target next index old may.there)) (subst (λ step. IsValid kind (edited_by rows step)) is valid))
+      ] refl

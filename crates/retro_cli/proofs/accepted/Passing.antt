@@ -1,5 +1,5 @@
 -- Answers that tell nothing of a priority queue: the judge passes their lines over.
-use Rattle.std.proofs.Common.{◌≡◌, ℕ, true, false, cond, List, [], ◌∷◌, ◌++◌, length, refl, Option, Some, None}
+use Rattle.std.proofs.Common.{◌≡◌, ℕ, true, false, cond, List, [], ◌∷◌, ◌++◌, length, refl, Option, Some, None, arith}
 use Rattle.std.specs.Prelude.{codes, decimal}
 use Rattle.retro_base.specs.declared.kind.Kind.{Kind}
 use Rattle.retro_base.specs.declared.question.Answer.{Answer}
@@ -26,7 +26,7 @@ use Rattle.workbench.specs.Bench.{NamedTimeline}
 use Rattle.workbench.specs.Outcome.{refusal_text, reply_text}
 use Rattle.workbench.specs.ReactionLaws.{answers_fate-each}
 use Rattle.workbench.specs.TimelineEffects.{answers, answers_at, answers_fate, answers_then, position_of, row_named}
-use Rattle.retro_cli.proofs.accepted.Printable.{NamesTimeline, answer_printable, decimal_printable, header_printable, listing_printable, refusal_printable, row_printable, taken_printable}
+use Rattle.retro_cli.proofs.accepted.Printable.{NamesTimeline, answer_printable, decimal_printable, header_printable, listing_printable, refusal_line, row_printable, taken_printable}
 use Rattle.retro_cli.proofs.accepted.ReadLines.{Reads, reads-append, reads_nothing, reads_other}
 
 -- a judge that reads this answer is as before
@@ -34,28 +34,8 @@ abbrev pub IsPassedOver : Outcome → Type 0
 IsPassedOver outcome = (judge : Judge) → Reads judge (reply_text outcome) judge
 
 -- refusals
-pub begins_other : (refusal : Refusal) → is_evidence_line (refusal_text refusal) ≡ false
-begins_other refusals.Long = refl
-begins_other refusals.Syntax = refl
-begins_other (refusals.NoTimeline name) = refl
-begins_other refusals.NameTaken = refl
-begins_other refusals.Timelines = refl
-begins_other refusals.Kind = refl
-begins_other (refusals.NoRow number) = refl
-begins_other refusals.Full = refl
-begins_other refusals.Numbers = refl
-begins_other (refusals.At number time) = refl
-begins_other refusals.NothingToUndo = refl
-begins_other refusals.NothingToRedo = refl
-begins_other (refusals.RowLine place cause) = refl
-begins_other refusals.Unfinished = refl
-begins_other refusals.Next = refl
-begins_other refusals.Rows = refl
-begins_other (refusals.NoItem number) = refl
-begins_other (refusals.NoFollower number) = refl
-
 pub refusal_passes : (refusal : Refusal) → NamesTimeline refusal → IsPassedOver (Refused refusal)
-refusal_passes refusal named judge = reads_other judge (refusal_text refusal) (refusal_printable refusal named) (begins_other refusal)
+refusal_passes refusal named judge = let line = refusal_line refusal named in reads_other judge (refusal_text refusal) line.0 line.1
 
 -- other answers
 pub silent_passes : IsPassedOver Silent
@@ -68,13 +48,10 @@ pub inserted_passes : (number : ℕ) → IsPassedOver (Inserted number)
 inserted_passes number judge = reads_other judge (codes "ok #" ++ decimal number) (decimal_printable number) refl
 
 answered_other : (answer : Answer) → is_evidence_line (answer_text answer) ≡ false
-answered_other (answered.Number v) = refl
-answered_other (answered.Pair key v) = refl
-answered_other answered.Nothing = refl
+answered_other answer = grind arith
 
 listed_other : (items : List Item) → is_evidence_line (listing_text items) ≡ false
-listed_other [] = refl
-listed_other (item ∷ items) = refl
+listed_other items = grind arith
 
 answered_passes : (answer : Answer) → IsPassedOver (Answered answer)
 answered_passes answer judge = reads_other judge (answer_text answer) (answer_printable answer) (answered_other answer)

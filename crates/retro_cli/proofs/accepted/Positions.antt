@@ -16,31 +16,7 @@ use Rattle.workbench.specs.TimelineEffects.{next_position, position_before, posi
 
 -- two kinds are one
 pub same_kind_is : (kind other : Kind) → same_kind kind other ≡ true → kind ≡ other
-same_kind_is Queue Queue is = refl
-same_kind_is Queue Stack is = absurd (cc)
-same_kind_is Queue Deque is = absurd (cc)
-same_kind_is Queue Dict is = absurd (cc)
-same_kind_is Queue Pq is = absurd (cc)
-same_kind_is Stack Queue is = absurd (cc)
-same_kind_is Stack Stack is = refl
-same_kind_is Stack Deque is = absurd (cc)
-same_kind_is Stack Dict is = absurd (cc)
-same_kind_is Stack Pq is = absurd (cc)
-same_kind_is Deque Queue is = absurd (cc)
-same_kind_is Deque Stack is = absurd (cc)
-same_kind_is Deque Deque is = refl
-same_kind_is Deque Dict is = absurd (cc)
-same_kind_is Deque Pq is = absurd (cc)
-same_kind_is Dict Queue is = absurd (cc)
-same_kind_is Dict Stack is = absurd (cc)
-same_kind_is Dict Deque is = absurd (cc)
-same_kind_is Dict Dict is = refl
-same_kind_is Dict Pq is = absurd (cc)
-same_kind_is Pq Queue is = absurd (cc)
-same_kind_is Pq Stack is = absurd (cc)
-same_kind_is Pq Deque is = absurd (cc)
-same_kind_is Pq Dict is = absurd (cc)
-same_kind_is Pq Pq is = refl
+same_kind_is kind other is = grind arith
 
 -- positions
 abbrev position_at : ℕ → Row → Position
@@ -48,8 +24,7 @@ position_at place row = record { place = place; time = row.time }
 
 placed_within : (rows : List Row) (place : ℕ) (row : Option Row) → slice_get rows place ≡ row
     → IfSome (option_map (λ (r : Row). position_at place r) row) (λ p. p.place < length rows)
-placed_within rows place None there = tt
-placed_within rows place (Some row) there = slice_get_within rows place row there
+placed_within rows place row there = grind (arith, slice_get_within)
 
 found_within : (rows : List Row) (place : Option ℕ)
     → IfSome (option_and_then (λ p. option_map (λ (r : Row). position_at p r) (slice_get rows p)) place) (λ p. p.place < length rows)
@@ -57,12 +32,10 @@ found_within rows None = tt
 found_within rows (Some place) = placed_within rows place (slice_get rows place) refl
 
 not_after : (n : ℕ) (position : Option Position) → IfSome position (λ p. p.place < n) → IfSome position (λ p. p.place ≤ n)
-not_after n None within = tt
-not_after n (Some position) within = omega (arith, within)
+not_after n position within = grind arith
 
 one_further : (n : ℕ) (position : Option Position) → IfSome position (λ p. p.place < n) → IfSome (option_map next_position position) (λ p. p.place ≤ n)
-one_further n None within = tt
-one_further n (Some position) within = omega (arith, within)
+one_further n position within = grind arith
 
 pub position_within : (spot : Spot) (rows : List Row) → IfSome (position_of spot rows) (λ p. p.place ≤ length rows)
 position_within (spots.At time) rows = count_by-le-length (λ (row : Row). nat_le row.time time) rows
@@ -75,8 +48,7 @@ IsCutOf rows (add place row) = ⊥
 IsCutOf rows (cut place row) = slice_get rows place ≡ Some row
 
 cut_there : (rows : List Row) (place : ℕ) (row : Option Row) → slice_get rows place ≡ row → IfSome (option_map (cut place) row) (IsCutOf rows)
-cut_there rows place None there = tt
-cut_there rows place (Some row) there = there
+cut_there rows place row there = grind arith
 
 pub cut_is : (rows : List Row) (place : Option ℕ) → IfSome (option_and_then (λ p. option_map (cut p) (slice_get rows p)) place) (IsCutOf rows)
 cut_is rows None = tt

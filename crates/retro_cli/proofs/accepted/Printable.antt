@@ -21,6 +21,7 @@ use Rattle.retro_base.specs.Limits.{longest_name, most_timelines}
 use Rattle.retro_base.specs.Name.{is_name, is_name_byte, is_reserved, starts_with_letter}
 use Rattle.retro_base.specs.OpText.{op_text}
 use Rattle.evidence.specs.declared.evidence.Evidence.{Evidence}
+use Rattle.evidence_check.specs.Judgement.{is_evidence_line}
 use Rattle.evidence.specs.Spelling.{spelling, edit_text, row_text, bridge_text, change_text, entry_text}
 use Rattle.script_grammar.specs.AnswerText.{answer_text, item_text, listing_text}
 use Rattle.timeline_file.specs.declared.block.RowCause.{RowCause}
@@ -43,10 +44,7 @@ printable-append (x ∷ xs) ys first second =
 
 -- numbers
 glyph_printable : (d : ℕ) → nat_le 32 (digit_glyph false d) ≡ true
-glyph_printable d = elim (nat_lt d 10) as (λ b. nat_le 32 (cond b (48 + d) (87 + d)) ≡ true) [
-  | true ↦ le-leb 32 (48 + d) (omega arith)
-  | false ↦ le-leb 32 (87 + d) (omega arith)
-]
+glyph_printable d = grind arith
 
 digits_printable : (k n : ℕ) (acc : List ℕ) → is_printable acc ≡ true → is_printable (digits_onto k 10 false n acc) ≡ true
 digits_printable zero n acc is = is
@@ -62,8 +60,7 @@ unfolding digits
 decimal_printable n = digits_printable 64 n [] refl
 
 value_printable : (v : ℤ) → is_printable (signed_decimal v) ≡ true
-value_printable (pos n) = decimal_printable n
-value_printable (negsuc n) = decimal_printable (suc n)
+value_printable v = grind (arith, decimal_printable)
 
 -- names
 below_space : (byte : ℕ) → byte < 32 → is_name_byte byte ≡ false
@@ -71,10 +68,7 @@ below_space byte low =
     rw (lt-leb 65 byte (omega arith), lt-leb 97 byte (omega arith), lt-leb 48 byte (omega arith), ne_eqb byte 95 (λ same. omega arith), ne_eqb byte 45 (λ same. omega arith)) refl
 
 name_byte_printable : (byte : ℕ) → is_name_byte byte ≡ true → nat_le 32 byte ≡ true
-name_byte_printable byte named = elim (nat_le 32 byte) as (λ b. nat_le 32 byte ≡ b → b ≡ true) [
-  | true ↦ λ is. refl
-  | false ↦ λ low. let wrong : false ≡ true = rw (below_space byte (leb-false 32 byte low)) at named in absurd (cc)
-] refl
+name_byte_printable byte named = grind (arith, below_space)
 
 bytes_printable : (bytes : List ℕ) → list_all is_name_byte bytes ≡ true → is_printable bytes ≡ true
 bytes_printable [] all = refl
@@ -91,27 +85,14 @@ name_printable name named =
 
 -- operations
 op_printable : (op : Op) → is_printable (op_text op) ≡ true
-op_printable (Enq v) = value_printable v
-op_printable Deq = refl
-op_printable (Push v) = value_printable v
-op_printable Pop = refl
-op_printable (PushL v) = value_printable v
-op_printable (PushR v) = value_printable v
-op_printable PopL = refl
-op_printable PopR = refl
-op_printable (Put key v) = search (printable-append, value_printable)
-op_printable (Del key) = value_printable key
-op_printable (Ins key) = value_printable key
-op_printable DelMin = refl
+op_printable op = grind (arith, printable-append, value_printable)
 
 -- evidence
 edit_printable : (added : Bool) (place : ℕ) → is_printable (edit_text added place) ≡ true
-edit_printable true place = decimal_printable place
-edit_printable false place = decimal_printable place
+edit_printable added place = grind (arith, decimal_printable)
 
 bridge_printable : (bridge : Option ℕ) → is_printable (bridge_text bridge) ≡ true
-bridge_printable None = refl
-bridge_printable (Some bridge) = decimal_printable bridge
+bridge_printable bridge = grind (arith, decimal_printable)
 
 entry_printable : (entry : Entry) → is_printable (entry_text entry) ≡ true
 entry_printable entry = search (printable-append, decimal_printable, value_printable)
@@ -127,13 +108,10 @@ spelling_printable e named = search (printable-append, name_printable, edit_prin
 
 -- answers
 pub answer_printable : (answer : Answer) → is_printable (answer_text answer) ≡ true
-answer_printable (Number v) = value_printable v
-answer_printable (Pair key v) = search (printable-append, value_printable)
-answer_printable Nothing = refl
+answer_printable answer = grind (arith, printable-append, value_printable)
 
 item_printable : (item : Item) → is_printable (item_text item) ≡ true
-item_printable (contents.Single v) = value_printable v
-item_printable (contents.Pair key v) = search (printable-append, value_printable)
+item_printable item = grind (arith, printable-append, value_printable)
 
 items_printable : (items : List Item) → is_printable (flat_map item_text items) ≡ true
 items_printable [] = refl
@@ -145,11 +123,7 @@ listing_printable (item ∷ items) = items_printable (item ∷ items)
 
 -- the lines of a saved timeline
 kind_printable : (kind : Kind) → is_printable (kind_text kind) ≡ true
-kind_printable Queue = refl
-kind_printable Stack = refl
-kind_printable Deque = refl
-kind_printable Dict = refl
-kind_printable Pq = refl
+kind_printable kind = grind arith
 
 pub header_printable : (name : List ℕ) (kind : Kind) (next count : ℕ) → is_name name ≡ true → is_printable (header_text name kind next count) ≡ true
 header_printable name kind next count named = search (printable-append, name_printable, kind_printable, decimal_printable)
@@ -163,33 +137,30 @@ taken_printable number time = search (printable-append, decimal_printable)
 
 -- refusals
 row_cause_printable : (cause : RowCause) → is_printable (cause_text cause) ≡ true
-row_cause_printable causes.Syntax = refl
-row_cause_printable causes.Kind = refl
-row_cause_printable causes.Number = refl
-row_cause_printable causes.Time = refl
-row_cause_printable causes.Replay = refl
+row_cause_printable cause = grind arith
 
 -- a refusal names a timeline by a name
 abbrev pub NamesTimeline : Refusal → Type 0
 NamesTimeline (refusals.NoTimeline name) = is_name name ≡ true
 NamesTimeline refusal = Unit {0}
 
-pub refusal_printable : (refusal : Refusal) → NamesTimeline refusal → is_printable (refusal_text refusal) ≡ true
-refusal_printable refusals.Long named = refl
-refusal_printable refusals.Syntax named = refl
-refusal_printable (refusals.NoTimeline name) named = name_printable name named
-refusal_printable refusals.NameTaken named = refl
-refusal_printable refusals.Timelines named = decimal_printable most_timelines
-refusal_printable refusals.Kind named = refl
-refusal_printable (refusals.NoRow number) named = decimal_printable number
-refusal_printable refusals.Full named = refl
-refusal_printable refusals.Numbers named = refl
-refusal_printable refusals.NothingToUndo named = refl
-refusal_printable refusals.NothingToRedo named = refl
-refusal_printable (refusals.RowLine place cause) named = search (printable-append, decimal_printable, row_cause_printable)
-refusal_printable refusals.Unfinished named = refl
-refusal_printable refusals.Next named = refl
-refusal_printable refusals.Rows named = refl
-refusal_printable (refusals.NoItem number) named = decimal_printable number
-refusal_printable (refusals.NoFollower number) named = decimal_printable number
-refusal_printable (refusals.At number time) named = search (printable-append, decimal_printable)
+-- its line is printable, and no evidence
+pub refusal_line : (refusal : Refusal) → NamesTimeline refusal → (is_printable (refusal_text refusal) ≡ true) × (is_evidence_line (refusal_text refusal) ≡ false)
+refusal_line refusals.Long named = (refl, refl)
+refusal_line refusals.Syntax named = (refl, refl)
+refusal_line (refusals.NoTimeline name) named = (name_printable name named, refl)
+refusal_line refusals.NameTaken named = (refl, refl)
+refusal_line refusals.Timelines named = (decimal_printable most_timelines, refl)
+refusal_line refusals.Kind named = (refl, refl)
+refusal_line (refusals.NoRow number) named = (decimal_printable number, refl)
+refusal_line refusals.Full named = (refl, refl)
+refusal_line refusals.Numbers named = (refl, refl)
+refusal_line refusals.NothingToUndo named = (refl, refl)
+refusal_line refusals.NothingToRedo named = (refl, refl)
+refusal_line (refusals.RowLine place cause) named = (search (printable-append, decimal_printable, row_cause_printable), refl)
+refusal_line refusals.Unfinished named = (refl, refl)
+refusal_line refusals.Next named = (refl, refl)
+refusal_line refusals.Rows named = (refl, refl)
+refusal_line (refusals.NoItem number) named = (decimal_printable number, refl)
+refusal_line (refusals.NoFollower number) named = (decimal_printable number, refl)
+refusal_line (refusals.At number time) named = (search (printable-append, decimal_printable), refl)

@@ -123,8 +123,7 @@ unfolding spelling
 spelling_begins e = refl
 
 line_counts : (judge after : Judge) (line : List ℕ) → Takes judge line after → after.accepted ≡ judge.accepted + one_if (is_evidence_line line)
-line_counts judge after line (Takes.passes passed other) = rw other (omega arith)
-line_counts judge after line (Takes.tells e is none) = rw (spelling_begins e) refl
+line_counts judge after line takes = grind (arith, spelling_begins)
 
 module _ (back : PrintedReadsBack) (short : LinesAreShort) where
   goes_on : (judge after : Judge) (line : List ℕ) → Takes judge line after → judged judge line ≡ Ok after

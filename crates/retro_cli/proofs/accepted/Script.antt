@@ -14,7 +14,7 @@ use Rattle.workbench.specs.Bench.{Bench, empty_bench}
 use Rattle.workbench.specs.Reaction.{Reaction, closing, reacts}
 use Rattle.retro_cli.specs.Accepted.{WhatIsWrittenIsAccepted}
 use Rattle.retro_cli.specs.Events.{events_among}
-use Rattle.retro_cli.specs.Output.{answers_to, output}
+use Rattle.retro_cli.specs.Output.{output}
 use Rattle.retro_cli.proofs.accepted.Benches.{IsToldOf, StaysKept, ends_kept, happens_kept}
 use Rattle.retro_cli.proofs.accepted.ReadLines.{Reads, events-append, reads-append, reads_nothing, reads_whole}
 
@@ -61,4 +61,4 @@ module _ (truth : EditsAreReported) (spells : EditsAreSpelled) (shifts_made : Sh
       let bench : Bench = bench_after empty_bench script in
       let closed = ends_kept truth spells shifts_made bench.timelines answered.later bench.block false answered.kept.timelines answered.kept.block in
       reads_whole back short (output bytes) closed.later
-      (reads-append nothing_reported answered.later closed.later (answers_to script) (closing bench).answer answered.reads closed.reads)
+      (reads-append nothing_reported answered.later closed.later (answers_of empty_bench script) (closing bench).answer answered.reads closed.reads)

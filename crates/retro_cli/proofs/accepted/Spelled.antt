@@ -52,8 +52,7 @@ IsRowSpelled row = IsRowNumber row.number × HasValues row.op
 
 module _ {X : Type 0} (P : X → Type 0) where
   chosen : (b : Bool) (o other : Option X) → IfSome o P → IfSome other P → IfSome (cond b o other) P
-  chosen true o other first second = first
-  chosen false o other first second = second
+  chosen b o other first second = grind arith
 
   last : (x : X) (rest : List (List ℕ)) → P x → IfSome (alone x rest) P
   last x [] holds = holds
@@ -78,17 +77,13 @@ module _ {X : Type 0} (P : X → Type 0) where
 
 -- names and numbers
 named_spelled : (word : List ℕ) → IfSome (name_of word) IsNamed
-named_spelled word = elim (is_name word) as (λ b. is_name word ≡ b → IfSome (cond b (Some word) None) IsNamed) [ true ↦ λ is. is | false ↦ λ e. tt ] refl
+named_spelled word = grind arith
 
 up_to_spelled : (most n : ℕ) → IfSome (up_to most n) (λ m. m ≤ most)
-up_to_spelled most n = elim (nat_le n most) as (λ b. nat_le n most ≡ b → IfSome (cond b (Some n) None) (λ m. m ≤ most)) [ true ↦ λ is. leb-true n most is | false ↦ λ e. tt ] refl
+up_to_spelled most n = grind arith
 
 between_spelled : (least most n : ℕ) → IfSome (between least most n) (λ m. (least ≤ m) × (m ≤ most))
-between_spelled least most n =
-    elim (nat_le least n && nat_le n most) as (λ b. (nat_le least n && nat_le n most) ≡ b → IfSome (cond b (Some n) None) (λ m. (least ≤ m) × (m ≤ most))) [
-      | true ↦ λ is. let parts = and_parts (nat_le least n) (nat_le n most) is in (leb-true least n parts.0, leb-true n most parts.1)
-      | false ↦ λ e. tt
-    ] refl
+between_spelled least most n = grind arith
 
 next_spelled : (word : List ℕ) → IfSome (next_of word) IsNext
 unfolding next_of

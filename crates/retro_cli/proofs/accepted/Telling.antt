@@ -30,11 +30,7 @@ itself name = (bytes_eq-Decides name name).1 refl
 
 -- what is one name is not another one
 pub other_name : (first second name : List ℕ) → bytes_eq first name ≡ true → bytes_eq first second ≡ false → bytes_eq second name ≡ false
-other_name first second name own apart =
-    elim (bytes_eq second name) as (λ b. bytes_eq second name ≡ b → b ≡ false) [
-      | true ↦ λ same. let wrong : true ≡ false = sym own ∙ ap (λ n. bytes_eq first n) (sym (same_bytes second name same)) ∙ apart in absurd (cc)
-      | false ↦ λ e. refl
-    ] refl
+other_name first second name own apart = grind (arith, same_bytes)
 
 -- one of the names is this one
 abbrev pub is_listed : List ℕ → List (List ℕ) → Bool
@@ -46,9 +42,7 @@ counted test [] = 0
 counted test (name ∷ names) = cond (test name) 1 0 + counted test names
 
 one_or_none : (a b : Bool) → (a ≡ true → b ≡ true) → cond a 1 0 ≤ cond b 1 0
-one_or_none true b so = rw (so refl) (omega arith)
-one_or_none false true so = omega arith
-one_or_none false false so = omega arith
+one_or_none a b so = grind arith
 
 no_fewer : (test other : List ℕ → Bool) → ((name : List ℕ) → test name ≡ true → other name ≡ true) → (names : List (List ℕ)) → counted test names ≤ counted other names
 no_fewer test other so [] = omega arith
@@ -57,18 +51,7 @@ no_fewer test other so (name ∷ names) = omega (arith, one_or_none (test name) 
 one_more : (test other : List ℕ → Bool) → ((name : List ℕ) → test name ≡ true → other name ≡ true) → (name : List ℕ) → test name ≡ false → other name ≡ true
     → (names : List (List ℕ)) → is_listed name names ≡ true → counted test names + 1 ≤ counted other names
 one_more test other so name out in_other [] listed = absurd (cc)
-one_more test other so name out in_other (first ∷ names) listed =
-    elim (bytes_eq first name) as (λ b. bytes_eq first name ≡ b → counted test (first ∷ names) + 1 ≤ counted other (first ∷ names)) [
-      | true ↦ λ is.
-          let same : first ≡ name = same_bytes first name is in
-          let few = no_fewer test other so names in
-          let first_out : test first ≡ false = ap test same ∙ out in
-          let first_in : other first ≡ true = ap other same ∙ in_other in
-          rw (first_out, first_in) (omega (arith, few))
-      | false ↦ λ apart.
-          let rest : is_listed name names ≡ true = rw apart at listed in
-          omega (arith, one_or_none (test first) (other first) (so first), one_more test other so name out in_other names rest)
-    ] refl
+one_more test other so name out in_other (first ∷ names) listed = grind (arith, same_bytes, no_fewer test other so names, one_more test other so name out in_other names, one_or_none)
 
 all_counted : (names : List (List ℕ)) → counted (λ name. true) names ≡ length names
 all_counted [] = refl
@@ -87,13 +70,9 @@ pub agrees_as : (names : List (List ℕ)) (by other : List ℕ → List Row) (re
 agrees_as names by other reported as_other agrees = record { same = λ name. agrees.same name ∙ ap timeless (as_other name); few = agrees.few }
 
 -- Rows under a name.
-is_some_not_none : {X : Type 0} (o : Option X) → is_none o ≡ false → is_some o ≡ true
-is_some_not_none None is = absurd (cc)
-is_some_not_none (Some x) is = refl
-
 found_once : (name other : List ℕ) (rows first : List Row) (others : Option (List Row)) → cond (bytes_eq name other) (Some rows) others
     ≡ cond (bytes_eq name other) (Some rows) (cond (bytes_eq name other) (Some first) others)
-found_once name other rows first others = elim (bytes_eq name other) as (λ b. cond b (Some rows) others ≡ cond b (Some rows) (cond b (Some first) others)) [ true ↦ refl | false ↦ refl ]
+found_once name other rows first others = grind arith
 
 pub rows_of-with : (name : List ℕ) (rows : List Row) (reported : List Reported) (other : List ℕ) → rows_of other (with_rows name rows reported) ≡ cond (bytes_eq name other) (Some rows) (rows_of other reported)
 rows_of-with name rows [] other = refl
@@ -112,17 +91,11 @@ rows_of-with name rows (first ∷ reported) other =
 
 length-with : (name : List ℕ) (rows : List Row) (reported : List Reported) → length (with_rows name rows reported) ≡ length reported + cond (is_none (rows_of name reported)) 1 0
 length-with name rows [] = refl
-length-with name rows (first ∷ reported) =
-    elim (is_named name first) as (λ b. is_named name first ≡ b → length (with_rows name rows (first ∷ reported)) ≡ length (first ∷ reported) + cond (is_none (rows_of name (first ∷ reported))) 1 0) [
-      | true ↦ λ is. rw is (omega arith)
-      | false ↦ λ apart. rw apart (omega (arith, length-with name rows reported))
-    ] refl
+length-with name rows (first ∷ reported) = grind (arith, length-with name rows reported)
 
 -- the names that were reported are so still
 still_reported : (name : List ℕ) (rows : List Row) (reported : List Reported) (other : List ℕ) → is_some (rows_of other reported) ≡ true → is_some (rows_of other (with_rows name rows reported)) ≡ true
-still_reported name rows reported other is =
-    rw (rows_of-with name rows reported other)
-    (elim (bytes_eq name other) as (λ b. is_some (cond b (Some rows) (rows_of other reported)) ≡ true) [ true ↦ refl | false ↦ is ])
+still_reported name rows reported other is = rw (rows_of-with name rows reported other) (grind arith)
 
 now_reported : (name : List ℕ) (rows : List Row) (reported : List Reported) → is_some (rows_of name (with_rows name rows reported)) ≡ true
 now_reported name rows reported = rw (rows_of-with name rows reported name, itself name) refl
@@ -172,12 +145,10 @@ has_room names by reported name few listed agrees =
 
 -- One edit.
 named_so : (name : List ℕ) (rows : List Row) (edit : Edit) → (evidence_of name rows edit).name ≡ name
-named_so name rows (add place row) = refl
-named_so name rows (cut place row) = refl
+named_so name rows edit = grind arith
 
 same_evidence : (name : List ℕ) (rows : List Row) (edit : Edit) → evidence_for name edit (change_of Pq rows edit) ≡ evidence_of name rows edit
-same_evidence name rows (add place row) = refl
-same_evidence name rows (cut place row) = refl
+same_evidence name rows edit = grind arith
 
 none_first : (reported : List Reported) (name : List ℕ) (e : Evidence) (rows : List Row) → e.name ≡ name → is_one_too_many (rows_of name reported) reported ≡ false
     → unwrap_or (rows_of name reported) [] ≡ rows → cause_of rows e ≡ None → first_cause reported e ≡ None
@@ -193,11 +164,24 @@ event_is judge name e rows after named same later =
     ∙ ap (λ rs. with_rows name rs judge.reported) (ap (λ rs. rows_after rs e) same ∙ later) in
     rw reported refl
 
+pub put_same : (name : List ℕ) (by : List ℕ → List Row) (rows : List Row) → by name ≡ rows → (other : List ℕ) → by other ≡ put name rows by other
+put_same name by rows own other =
+    elim (bytes_eq name other) as (λ b. bytes_eq name other ≡ b → by other ≡ cond b rows (by other)) [
+      | true ↦ λ is. ap by (sym (same_bytes name other is)) ∙ own
+      | false ↦ λ apart. refl
+    ] refl
+
 -- what the judge is after a text that tells of a name, and knows then
 pub record HasReported (names : List (List ℕ)) (by : List ℕ → List Row) (name : List ℕ) (after : List Row) (judge : Judge) (text : List ℕ) : Type 0 where
   pub later : Judge
   pub reads : Reads judge text later
   pub agrees : Agrees names (put name after by) later.reported
+
+-- a text that is passed over, where the rows of the name are these already
+pub tells_same : (names : List (List ℕ)) (by : List ℕ → List Row) (name : List ℕ) (rows : List Row) (judge : Judge) (text : List ℕ) → Reads judge text judge
+    → Agrees names by judge.reported → by name ≡ rows → HasReported names by name rows judge text
+tells_same names by name rows judge text reads agrees own =
+    record { later = judge; reads = reads; agrees = agrees_as names by (put name rows by) judge.reported (put_same name by rows own) agrees }
 
 module _ (tells : EditsAreReported) (spells : EditsAreSpelled) where
   module _ (names : List (List ℕ)) (few : length names ≤ most_timelines) (name : List ℕ) (named : is_name name ≡ true) (listed : is_listed name names ≡ true) where
@@ -222,15 +206,7 @@ module _ (tells : EditsAreReported) (spells : EditsAreSpelled) where
     pub tells_step : (next : ℕ) (step : Step) (judge : Judge) (by : List ℕ → List Row) (rows after : List Row) → Agrees names by judge.reported → by name ≡ rows → MakesStep Pq next rows step after
         → HasReported names by name after judge (evidence_lines (evidence_of_step name rows step))
     unfolding evidence_of_step
-    tells_step next [] judge by rows after agrees own made = record {
-      later = judge;
-      reads = reads_nothing judge;
-      agrees = agrees_as names by (put name after by) judge.reported
-          (λ other. elim (bytes_eq name other) as (λ b. bytes_eq name other ≡ b → by other ≡ cond b after (by other)) [
-            | true ↦ λ is. ap by (sym (same_bytes name other is)) ∙ own ∙ made
-            | false ↦ λ apart. refl
-          ] refl) agrees;
-    }
+    tells_step next [] judge by rows after agrees own made = tells_same names by name after judge [] (reads_nothing judge) agrees (own ∙ made)
     tells_step next (edit ∷ step) judge by rows after agrees own made =
         let middle : List Row = made.0 in
         let first : Judge = record { reported = with_rows name (timeless middle) judge.reported; accepted = judge.accepted + 1 } in

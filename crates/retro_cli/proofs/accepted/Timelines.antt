@@ -10,7 +10,7 @@ use Rattle.retro_base.specs.declared.kind.Kind.TheVariants.{Queue, Stack, Deque,
 use Rattle.retro_base.specs.declared.row.Row.{Row}
 use Rattle.retro_base.specs.Limits.{most_timelines}
 use Rattle.retro_base.specs.Name.{is_name}
-use Rattle.retro_base.specs.Replay.{fold_rows}
+use Rattle.retro_base.specs.lemmas.Replayable.{empty_replayable}
 use Rattle.evidence_check.specs.Judgement.{Judge, Reported, rows_of}
 use Rattle.workbench.specs.declared.outcome.Outcome.{Outcome}
 use Rattle.workbench.specs.declared.outcome.Outcome.TheVariants.{Accepted, Refused}
@@ -20,10 +20,10 @@ use Rattle.workbench.specs.Outcome.{reply_text}
 use Rattle.workbench.specs.Reaction.{Effect, if_startable, leaves, on_named, with_first, with_timeline}
 use Rattle.workbench.specs.TimelineEffects.{TimelineEffect}
 use Rattle.retro_cli.proofs.accepted.Blocks.{all_then}
-use Rattle.retro_cli.proofs.accepted.Effects.{IsGood, StaysGood, put_same, reported_rows}
+use Rattle.retro_cli.proofs.accepted.Effects.{IsGood, StaysGood, reported_rows}
 use Rattle.retro_cli.proofs.accepted.Passing.{IsPassedOver, accepted_passes, refusal_passes}
 use Rattle.retro_cli.proofs.accepted.ReadLines.{Reads}
-use Rattle.retro_cli.proofs.accepted.Telling.{Agrees, HasReported, agrees_as, counted, is_listed, itself, other_name, put}
+use Rattle.retro_cli.proofs.accepted.Telling.{Agrees, HasReported, agrees_as, counted, is_listed, itself, other_name, put, tells_same}
 use Rattle.retro_base.specs.Facts.{same_bytes}
 
 -- the names of the timelines, and the rows of each name of which evidence tells
@@ -69,8 +69,7 @@ abbrev Finds : List ℕ → (NamedTimeline → TimelineEffect) → List NamedTim
 Finds name effect timelines made = (made ≡ leaves timelines (Refused (refusals.NoTimeline name))) ⊎ IsFound name effect timelines made
 
 chosen_once : (b : Bool) (new old rest : List Row) → cond b new rest ≡ cond b new (cond b old rest)
-chosen_once true new old rest = refl
-chosen_once false new old rest = refl
+chosen_once b new old rest = grind arith
 
 module _ (name : List ℕ) (effect : NamedTimeline → TimelineEffect) where
   found_first : (first : NamedTimeline) (timelines : List NamedTimeline) → AllByRecursion IsGood (first ∷ timelines) → StaysGood first (effect first) → first.name ≡ name
@@ -175,7 +174,7 @@ more_counted test (name ∷ names) more = omega (arith, more_counted test names 
 
 last_listed : (names : List (List ℕ)) (name : List ℕ) → is_listed name (names ++ name ∷ []) ≡ true
 last_listed [] name = rw (itself name) refl
-last_listed (first ∷ names) name = elim (bytes_eq first name) as (λ b. (b || is_listed name (names ++ name ∷ [])) ≡ true) [ true ↦ refl | false ↦ last_listed names name ]
+last_listed (first ∷ names) name = grind (arith, last_listed names name)
 
 -- the answer tells of the new timeline, whose name nobody has reported of
 abbrev pub TellsOfNew : NamedTimeline → Outcome → Judge → Type 0
@@ -221,19 +220,14 @@ startable_kept timelines name effect judge kept starts =
 
 -- a timeline without rows
 nothing_to_tell : (kind : Kind) → reported_rows kind [] ≡ []
-nothing_to_tell Queue = refl
-nothing_to_tell Stack = refl
-nothing_to_tell Deque = refl
-nothing_to_tell Dict = refl
-nothing_to_tell Pq = refl
+nothing_to_tell kind = grind arith
 
 fresh_is_good : (name : List ℕ) (kind : Kind) → is_name name ≡ true → IsGood (fresh name kind)
-unfolding fold_rows
 fresh_is_good name kind named = record {
   named = named;
   least = omega arith;
   most = omega arith;
-  sound = record { replayable = record { few = omega arith; of_kind = tt; own_numbers = tt; valid = refl }; ranged = tt };
+  sound = record { replayable = empty_replayable kind; ranged = tt };
   undo_start = [];
   undo = refl;
   redo_start = [];
@@ -245,8 +239,5 @@ pub starts_kept : (timelines : List NamedTimeline) (name : List ℕ) (kind : Kin
 starts_kept timelines name kind judge kept named =
     startable_kept timelines name (with_timeline timelines (fresh name kind) Accepted) judge kept
     (λ free room. comes_kept timelines (fresh name kind) Accepted judge kept (fresh_is_good name kind named) free room
-    (λ names few listed by agrees own. record {
-      later = judge;
-      reads = accepted_passes judge;
-      agrees = agrees_as names by (put name (reported_rows kind []) by) judge.reported (put_same name by (reported_rows kind []) (own ∙ sym (nothing_to_tell kind))) agrees;
-    }))
+    (λ names few listed by agrees own.
+    tells_same names by name (reported_rows kind []) judge (reply_text Accepted) (accepted_passes judge) agrees (own ∙ sym (nothing_to_tell kind))))

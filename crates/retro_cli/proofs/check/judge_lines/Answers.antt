@@ -1,8 +1,8 @@
 use Rattle.std.proofs.Common.{arith}
 use Rattle.retro_io.specs.LineReader.{line_of, has_ended}
 use Rattle.retro_io.specs.ReaderLaws.{MovesOn-then}
-use Rattle.retro_cli.proofs.GoesOn.{GivenAs}
 use Rattle.retro_cli.proofs.Judged.{is_given, judgement_is, judges_next, reads_one}
+use Rattle.retro_cli.proofs.Shown.{GivenAs}
 use Rattle.retro_cli.proofs.check.judge_lines.Goals as goal
 use Rattle.retro_cli.proofs.check.judge_lines.Goals.{in-Whole, in-Long}
 

@@ -2,7 +2,7 @@
 use Rattle.std.proofs.Common.{inl}
 use Rattle.std.proofs.lemmas.Result.{err_from_is_err_and}
 use Rattle.retro_io.specs.FlushLaws.{StaysUnflushed-none}
-use Rattle.retro_cli.proofs.OutOfMemory.{at_start}
+use Rattle.retro_cli.proofs.Ends.{at_start}
 use Rattle.retro_cli.proofs.followed.follow_from_start.Goals as goal
 
 pub returns-in_err-numbered-clause-stands : goal.returns-in_err-numbered-clause-stands

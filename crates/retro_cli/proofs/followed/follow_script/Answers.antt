@@ -4,7 +4,6 @@ use Rattle.std.proofs.lemmas.Result.{err_from_is_err_and}
 use Rattle.retro_cli.specs.declared.status.Status.TheVariants as statuses
 use Rattle.retro_cli.specs.Audience.{audience_by, followed}
 use Rattle.retro_cli.specs.Ends.{ScriptStands}
-use Rattle.retro_cli.specs.Run.{AppendsWhole}
 use Rattle.retro_cli.proofs.Reported.{stands_answered, stands_sent, stands_unsent}
 use Rattle.retro_cli.proofs.followed.follow_script.Goals as goal
 
@@ -24,29 +23,29 @@ returns-in_err-send-in-Err-NoMemory-clause-stands g c =
 
 pub returns-in-Ok-flush-clause-stands : goal.returns-in-Ok-flush-clause-stands
 returns-in-Ok-flush-clause-stands g c =
+    let answered = c.in-Ok.ensures.answered in
     stands_answered g.S.Source g.K.Sink g.K.SendingSink.sends _ _ _ _ _ _ record {
-      ended = search rules;
-      output = search rules;
+      ended = answered.ended;
+      output = rw c.in-Ok-flush.ensures.written answered.output;
       flush = record {
         middle = c.answer_and_report-answered.new.sink;
-        wrote = c.in-Ok.ensures.unflushed;
+        wrote = answered.unflushed;
         answer = Ok c.in-Ok-flush.field-0;
         is = refl;
         flush = c.in-Ok-flush.ensures.does;
       };
       flushed = search rules;
-      refusal = search rules;
+      refusal = answered.refusal;
     }
 
 pub returns-in-Err-flush-clause-stands : goal.returns-in-Err-flush-clause-stands
 returns-in-Err-flush-clause-stands g c =
-    let all : AppendsWhole (followed (audience_by (λ b. (goal.Follower-dyn g (b.vtable, b.value)).report_after b.value) c.args.followers.now)) (g.S.Source.left c.args.source.now)
-    (g.K.Sink.written c.args.sink.now) (g.K.Sink.written c.flush.new.self) = search rules in
+    let answered = c.in-Ok.ensures.answered in
     inl (inr (
-      all,
+      rw c.in-Err-flush.ensures.written answered.output,
       record {
         middle = c.answer_and_report-answered.new.sink;
-        wrote = c.in-Ok.ensures.unflushed;
+        wrote = answered.unflushed;
         answer = Err c.in-Err-flush.field-0;
         is = refl;
         flush = c.in-Err-flush.ensures.does;

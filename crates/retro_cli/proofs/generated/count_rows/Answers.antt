@@ -1,11 +1,9 @@
 -- The name is one.
-use Rattle.std.proofs.Common.{◌≡◌, ℕ, List, Option, Some, None, sym, ◌∙◌}
+use Rattle.std.proofs.Common.{sym, ◌∙◌}
+use Rattle.retro_base.specs.Facts.{some_is_not_none}
 use Rattle.retro_cli.specs.Summary.{generated_name}
 use Rattle.retro_cli.proofs.Summing.{generated_is_name}
 use Rattle.retro_cli.proofs.generated.count_rows.Goals as goal
 
-none_is_not : {word : List ℕ} → ◌≡◌ {A = Option (List ℕ)} None (Some word) → ⊥
-none_is_not e = cc
-
 pub returns-in-None : goal.returns-in-None
-returns-in-None c = absurd (none_is_not {word = generated_name} (sym c.in-None.is ∙ c.read.ensures ∙ generated_is_name))
+returns-in-None c = absurd (some_is_not_none {x = generated_name} (sym generated_is_name ∙ sym c.read.ensures ∙ c.in-None.is))

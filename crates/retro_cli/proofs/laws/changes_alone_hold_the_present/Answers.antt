@@ -1,4 +1,4 @@
-use Rattle.retro_cli.proofs.mirrored.Script.{changes_hold}
+use Rattle.retro_cli.proofs.Mirrored.{changes_hold}
 use Rattle.retro_cli.proofs.laws.changes_alone_hold_the_present.Goals as goal
 
 pub returns : goal.returns

@@ -1,5 +1,5 @@
 use Rattle.std.proofs.Common.{rules, sym, ◌∙◌}
-use Rattle.retro_cli.proofs.Numbered.{past_all, there}
+use Rattle.retro_cli.proofs.Handed.{past_all, there}
 use Rattle.retro_cli.proofs.mute.follower_left.Goals as goal
 
 pub returns-then-number-followers : goal.returns-then-number-followers

@@ -1,5 +1,5 @@
 use Rattle.std.proofs.Common.{rules, refl, None}
-use Rattle.retro_cli.proofs.Numbered.{let_go, none_to_let_go}
+use Rattle.retro_cli.proofs.Handed.{let_go, none_to_let_go}
 use Rattle.retro_cli.proofs.mute.let_go.Goals as goal
 
 pub returns-then-number-followers : goal.returns-then-number-followers

@@ -1,19 +1,20 @@
 -- What is true of the run over the outer sink is true of the one behind it.
-use Rattle.std.proofs.Common.{◌≡◌, rules}
+use Rattle.std.proofs.Common.{◌≡◌, [], false, rules}
 use Rattle.retro_io.specs.DirectSink.{reference_behind}
-use Rattle.retro_cli.proofs.Behind.{alone_behind, alone_reference, alone_unsent}
+use Rattle.retro_cli.specs.Forms.{form_of}
+use Rattle.retro_cli.proofs.Behind.{run_behind, run_reference, run_unsent}
 use Rattle.retro_cli.proofs.program.run.Goals as goal
 
 pub returns-clause-promise : goal.returns-clause-promise
 returns-clause-promise g c =
     let ran = c.run_by_form-status.ensures.promise in
     let same : reference_behind c.run_by_form-status.new.sink ≡ reference_behind c.new-direct.result =
-    alone_reference g.S.Source g.K.Sink _ _ _ _ c.run_by_form-status.result c.args.words.now ran in
-    alone_behind g.S.Source g.K.Sink _ _ _ _ c.run_by_form-status.result c.args.words.now _ _ c.new-direct.ensures.sink (search rules) ran
+    run_reference g.S.Source g.K.Sink _ _ _ _ [] c.run_by_form-status.result false (form_of c.args.words.now) _ _ (λ none. none) ran in
+    run_behind g.S.Source g.K.Sink _ _ _ _ [] c.run_by_form-status.result false (form_of c.args.words.now) _ _ _ _ c.new-direct.ensures.sink (search rules) ran
 
 pub returns-clause-fault : goal.returns-clause-fault
 returns-clause-fault g c =
     let ran = c.run_by_form-status.ensures.promise in
     let same : reference_behind c.run_by_form-status.new.sink ≡ reference_behind c.new-direct.result =
-    alone_reference g.S.Source g.K.Sink _ _ _ _ c.run_by_form-status.result c.args.words.now ran in
-    λ e. alone_unsent g.S.Source g.K.Sink _ _ _ _ c.run_by_form-status.result c.args.words.now _ _ c.new-direct.ensures.sink (search rules) ran e
+    run_reference g.S.Source g.K.Sink _ _ _ _ [] c.run_by_form-status.result false (form_of c.args.words.now) _ _ (λ none. none) ran in
+    λ e. run_unsent g.S.Source g.K.Sink _ _ _ _ [] c.run_by_form-status.result false (form_of c.args.words.now) _ _ _ _ c.new-direct.ensures.sink (search rules) ran e

@@ -1,10 +1,9 @@
 -- The lines given so far are the first ones of the script, and were answered.
-use Rattle.std.proofs.Common.{◌≡◌, ℕ, ◌+◌, ◌-◌, ◌≤◌, List, Some, false}
+use Rattle.std.proofs.Common.{◌≡◌, ◌+◌, ◌-◌, ◌≤◌, false}
 use Rattle.retro_io.specs.Flushes.{StaysUnflushed}
-use Rattle.retro_io.specs.LineReader.{MovesOn, given, held, limit_of, has_ended, has_failed, rest_of, source_of}
+use Rattle.retro_io.specs.LineReader.{MovesOn, given, held, limit_of, has_ended, has_failed, source_of, taken}
 use Rattle.retro_cli.specs.Audience.{audience_by}
-use Rattle.retro_cli.proofs.GoesOn.{GoesOn}
-use Rattle.retro_cli.proofs.ReadSoFar.{IsReadSoFar}
+use Rattle.retro_cli.proofs.Ends.{WentOn}
 use Rattle.retro_cli.proofs.script.answer_lines.Given as goal
 
 abbrev pub invariant-loop-text : goal.invariant-loop-text
@@ -15,12 +14,9 @@ invariant-loop-text g l = record {
   source_faults : g.S.Source.faults (source_of l.fn.reader.reader) ≤ g.S.Source.faults (source_of l.reader.reader);
   sink_faults : g.K.Sink.faults l.fn.sink ≤ g.K.Sink.faults l.sink;
   unflushed : StaysUnflushed g.K.Sink g.K.SendingSink.sends l.fn.sink l.sink;
-  answers : (bytes : List ℕ) → rest_of l.fn.reader.reader ≡ Some bytes
-      → GoesOn (audience_by (λ b. (goal.Follower-dyn g (b.vtable, b.value)).report_after b.value) l.fn.followers) bytes
-      (g.K.Sink.written l.fn.sink) l.bench.bench (audience_by (λ b. (goal.Follower-dyn g (b.vtable, b.value)).report_after b.value) l.followers)
-      l.refused (has_ended l.reader.reader) (rest_of l.reader.reader) (g.K.Sink.written l.sink);
-  so_far : (script left : List ℕ) → g.S.Source.left (source_of l.fn.reader.reader) ≡ Some script → g.S.Source.left (source_of l.reader.reader) ≡ Some left
-      → IsReadSoFar g.S.Source (source_of l.fn.reader.reader) (source_of l.reader.reader) script left (held l.reader.reader);
+  went_on : WentOn g.S.Source g.K.Sink (audience_by (λ b. (goal.Follower-dyn g (b.vtable, b.value)).report_after b.value) l.fn.followers)
+      (source_of l.fn.reader.reader) (source_of l.reader.reader) l.fn.sink l.sink (held l.reader.reader) (has_ended l.reader.reader) (taken l.reader.reader)
+      l.bench.bench (audience_by (λ b. (goal.Follower-dyn g (b.vtable, b.value)).report_after b.value) l.followers) l.refused;
 }
 
 abbrev pub decreases-loop-text : goal.decreases-loop-text

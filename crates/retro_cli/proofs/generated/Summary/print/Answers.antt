@@ -1,7 +1,11 @@
 -- What was appended, piece by piece.
-use Rattle.std.proofs.Common.{◌∙◌, append_assoc, refl}
-use Rattle.retro_cli.proofs.Results.{on_ok}
+use Rattle.std.proofs.Common.{◌∙◌, append_assoc, refl, Result, Ok, Err}
+use Rattle.std.specs.Prelude.{OnOk}
 use Rattle.retro_cli.proofs.generated.Summary.print.Goals as goal
+
+on_ok : {X E A B : Type 0} (result : Result X E) → (A → B) → OnOk result A → OnOk result B
+on_ok (Ok value) f a = f a
+on_ok (Err error) f a = tt
 
 pub returns : goal.returns
 returns c =

@@ -1,7 +1,6 @@
 -- No more is accepted than was read, and out of memory hides no refusal.
 use Rattle.std.proofs.Common.{arith, sym, ◌∙◌}
-use Rattle.retro_cli.proofs.Judged.{accepts_one, unrefused}
-use Rattle.retro_cli.proofs.Unhidden.{unhidden}
+use Rattle.retro_cli.proofs.Judged.{accepts_one, unrefused, unhidden}
 use Rattle.retro_cli.proofs.judging.Judging.take.Goals as goal
 
 pub invariant_of-self : goal.invariant_of-self

@@ -1,7 +1,7 @@
 use Rattle.std.proofs.Common.{length}
 use Rattle.retro_cli.specs.Audience.{audience_by}
 use Rattle.retro_cli.proofs.Handed.{HandsOn}
-use Rattle.retro_cli.proofs.follow.hand_on_lines.Given as goal
+use Rattle.retro_cli.proofs.follow.hand_on.Given as goal
 
 abbrev pub invariant-loop-rest : goal.invariant-loop-rest
 invariant-loop-rest g l =
