@@ -41,29 +41,21 @@ fn status_of(rt: &HostRuntime, args: Args) -> Status
     ensures words { result ≡ Status.Words → HasNoForm (words_after_name args) }
     ensures no_form { HasNoForm (words_after_name args) → (result ≡ Status.Words) ⊎ (result ≡ Status.NoMemory) }
 {
-    match words_of(rt.alloc(), args) {
-        Ok(words) => answer(rt, &words),
-        Err(status) => status,
-    }
-}
-
-/// Runs the program over the streams of the process.
-fn answer(rt: &HostRuntime, words: &Words) -> Status
-    ensures runs { (result ≡ Status.NoMemory) ⊎ EndsARun ⟦<StdSource<Stdin> as Source>⟧ ⟦<StdSink<Stdout> as Sink>⟧
-        ⟦<Outbox<StdSink<Stdout>> as Sink>⟧ result words.now }
-    ensures words { result ≡ Status.Words → HasNoForm words.now }
-    ensures no_form { HasNoForm words.now → (result ≡ Status.Words) ⊎ (result ≡ Status.NoMemory) }
-{
+    let words = match words_of(rt.alloc(), args) {
+        Ok(words) => words,
+        Err(status) => return status,
+    };
     let mut source = StdSource::new(rt.stdin());
     let sink = StdSink::new(rt.stdout());
-    match run_gathered(rt.alloc(), words, &mut source, sink) {
+    match run_gathered(rt.alloc(), &words, &mut source, sink) {
         Ok((status, _outbox)) => status,
         Err(NoMemory) => Status::NoMemory,
     }
 }
 
 /// Runs the program over an outbox before this sink, with a tally as follower, and after it a mirror where the words have a name, and
-/// gives the outbox back. After `NoMemory` nothing was read.
+/// gives the outbox back. All that `run_sending` promises holds of the outbox, and where the sink did not fail, all that was written to it
+/// has gone on to the sink. After `NoMemory` nothing was read.
 fn run_gathered<S: Source, K: Sink + Drop>(
     alloc: Global,
     words: &Words,
@@ -74,10 +66,14 @@ fn run_gathered<S: Source, K: Sink + Drop>(
         source.old source.new sink ended.1 ended.0 words.now) }
     ensures err { OnErr result (source.new ≡ source.old) }
 {
-    match name_followed(words) {
-        Some(name) => run_with_mirror(alloc, name, words, source, sink),
-        None => run_with_tally(alloc, words, source, sink),
+    let mut followers: Vec<Box<dyn Follower>> = Vec::new(alloc);
+    followers.push(Box::new(alloc, Tally::new())?)?;
+    if let Some(name) = name_followed(words) {
+        followers.push(Box::new(alloc, Mirror::new(alloc, name))?)?;
     }
+    let mut outbox = Outbox::new(alloc, sink)?;
+    let status = run_sending(alloc, words, source, &mut outbox, followers);
+    Ok((status, outbox))
 }
 
 /// The second of two words, if it is a name.
@@ -89,60 +85,6 @@ fn name_followed(words: &Words) -> Option<Name>
     } else {
         None
     }
-}
-
-/// Runs the program over an outbox before this sink, with a tally as follower.
-fn run_with_tally<S: Source, K: Sink + Drop>(
-    alloc: Global,
-    words: &Words,
-    source: &mut S,
-    sink: K,
-) -> Result<(Status, Outbox<K>), NoMemory>
-    ensures runs { IfOk result (λ ended. RunsGathered ⟦<S as Source>⟧ ⟦<K as Sink>⟧ ⟦<Outbox<K> as Sink>⟧ (tally ∷ [])
-        source.old source.new sink ended.1 ended.0 words.now) }
-    ensures err { OnErr result (source.new ≡ source.old) }
-{
-    let mut followers: Vec<Box<dyn Follower>> = Vec::new(alloc);
-    followers.push(Box::new(alloc, Tally::new())?)?;
-    run_before(alloc, words, source, sink, followers)
-}
-
-/// Runs the program over an outbox before this sink, with a tally and a mirror of this name as followers.
-fn run_with_mirror<S: Source, K: Sink + Drop>(
-    alloc: Global,
-    name: Name,
-    words: &Words,
-    source: &mut S,
-    sink: K,
-) -> Result<(Status, Outbox<K>), NoMemory>
-    ensures runs { IfOk result (λ ended. RunsGathered ⟦<S as Source>⟧ ⟦<K as Sink>⟧ ⟦<Outbox<K> as Sink>⟧ (tally ∷ mirror name ∷ [])
-        source.old source.new sink ended.1 ended.0 words.now) }
-    ensures err { OnErr result (source.new ≡ source.old) }
-{
-    let mut followers: Vec<Box<dyn Follower>> = Vec::new(alloc);
-    followers.push(Box::new(alloc, Tally::new())?)?;
-    followers.push(Box::new(alloc, Mirror::new(alloc, name))?)?;
-    run_before(alloc, words, source, sink, followers)
-}
-
-/// Runs the program with these followers over an outbox before this sink, and gives the outbox back. All that `run_sending` promises
-/// holds of the outbox, and where the sink did not fail, all that was written to it has gone on to the sink. After `NoMemory` nothing was
-/// read.
-fn run_before<S: Source, K: Sink + Drop>(
-    alloc: Global,
-    words: &Words,
-    source: &mut S,
-    sink: K,
-    followers: Vec<Box<dyn Follower>>,
-) -> Result<(Status, Outbox<K>), NoMemory>
-    requires { length followers.items ≤ most_followers }
-    ensures runs { IfOk result (λ ended. RunsGathered ⟦<S as Source>⟧ ⟦<K as Sink>⟧ ⟦<Outbox<K> as Sink>⟧
-        (map (λ f. report_after f) followers.items) source.old source.new sink ended.1 ended.0 words.now) }
-    ensures err { OnErr result (source.new ≡ source.old) }
-{
-    let mut outbox = Outbox::new(alloc, sink)?;
-    let status = run_sending(alloc, words, source, &mut outbox, followers);
-    Ok((status, outbox))
 }
 
 /// The words after the program's name, each of them, or the status where they cannot be had.

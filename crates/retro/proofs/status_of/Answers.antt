@@ -1,9 +1,6 @@
--- The status is that of the run with these words.
-use Rattle.std.proofs.Common.{inl, inr}
+-- The run that ended so is the one over the outbox that was made, with these words.
+use Rattle.std.proofs.Common.{inr}
 use Rattle.retro.proofs.status_of.Goals as goal
 
-pub returns-in-Ok-clause-runs : goal.returns-in-Ok-clause-runs
-returns-in-Ok-clause-runs c = elim c.answer.ensures.runs [
-  | inl none ↦ inl none
-  | inr ended ↦ inr (inr (rw (← c.in-Ok.ensures.words) ended))
-]
+pub returns-in-Ok-run_gathered-clause-runs : goal.returns-in-Ok-run_gathered-clause-runs
+returns-in-Ok-run_gathered-clause-runs c = inr (inr (rw (← c.in-Ok.ensures.words) (_, _, _, _, c.in-Ok-run_gathered.ensures.runs)))
