@@ -21,7 +21,7 @@ NAMED = re.compile(r"^( *)(?:pub )?([^\s:(){}]+) : (.+)$")
 BOUND = re.compile(r"[({]([^\s(){}:,]+(?: [^\s(){}:,]+)*) : |λ ([^.()]+)\. ")
 WORD = re.compile(r"[^\s(){},;]+")
 ALLOWED = {
-    "clash": "two entries of one number in a page on keys and in one on edits: each page is read alone",
+    "same_by_order": "of pq_fusion, from before retro_base said it as `neither_before`: it goes where that crate is next proved anew",
 }
 INSIDE, APART = "inside another proof", "in crates apart"
 
