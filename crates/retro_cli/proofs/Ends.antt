@@ -1,5 +1,5 @@
 -- What stands in the sink where a run of lines ends.
-use Rattle.std.proofs.Common.{◌≡◌, ℕ, Bool, false, ◌≤◌, ◌+◌, ◌-◌, List, [], ◌++◌, sym, subst, refl, Option, Some, None, Result, Ok, Err, inl, inr}
+use Rattle.std.proofs.Common.{◌≡◌, ℕ, Bool, false, ◌≤◌, ◌+◌, ◌-◌, List, [], ◌++◌, sym, subst, refl, Option, Some, None, Result, Err, inl, inr}
 use Rattle.retro_base.specs.Limits.{most_bytes}
 use Rattle.retro_io.specs.declared.mark.ReadError.{ReadError}
 use Rattle.retro_io.specs.declared.mark.ReadError.TheVariants.{ReadFault, TooLong}
@@ -10,7 +10,7 @@ use Rattle.retro_io.specs.FlushLaws.{EndsWithFailedSend-more, EndsWithFailedWrit
 use Rattle.retro_io.specs.Flushes.{EndsWithFailedSend, Sends, StaysUnflushed}
 use Rattle.retro_io.specs.Lines.{has_line_feed, lines}
 use Rattle.retro_io.specs.Reads.{MakesOf, Took}
-use Rattle.retro_io.specs.Sink.{Appends, AppendsProperPrefix}
+use Rattle.retro_io.specs.Sink.{AppendsProperPrefix}
 use Rattle.workbench.specs.Bench.{Bench}
 use Rattle.retro_cli.specs.declared.stop.Stop.{Stop}
 use Rattle.retro_cli.specs.declared.stop.Stop.TheVariants as stops
@@ -18,8 +18,8 @@ use Rattle.retro_cli.specs.Audience.{Audience, followed}
 use Rattle.retro_cli.specs.Delivery.{Writes}
 use Rattle.retro_cli.specs.Ends.{EndsAfterLine, ScriptStands}
 use Rattle.retro_cli.specs.OutOfMemory.{AppendsAnswersOfEarlier, AppendsAnswersToEarlier}
-use Rattle.retro_cli.specs.Output.{output_by, whole_by}
-use Rattle.retro_cli.specs.Run.{AppendsAnswersOfFirst, AppendsAnswersOfTaken, AppendsFirstAnswers, AppendsOutput, AppendsWholePart, MatchesRefusal}
+use Rattle.retro_cli.specs.Output.{whole_by}
+use Rattle.retro_cli.specs.Run.{AppendsAnswersOfFirst, AppendsAnswersOfTaken, AppendsFirstAnswers, AppendsWholePart}
 use Rattle.retro_cli.specs.Stop.{StopsAt, status_after}
 use Rattle.retro_cli.proofs.GoesOn.{GoesOn, first_at_limit, taken_at_fault}
 use Rattle.retro_cli.proofs.Reactions.{answers_by-none}

@@ -18,12 +18,11 @@ use Rattle.retro_base.specs.LineLength.{is_long}
 use Rattle.workbench.specs.Answers.{bench_after}
 use Rattle.workbench.specs.Bench.{Bench, BenchState, empty_bench}
 use Rattle.workbench.specs.Reaction.{Reaction, closing, reacts}
-use Rattle.followers.specs.Followers.{Reporting}
-use Rattle.retro_cli.specs.Audience.{Audience, Turn, audience_after, followed, follower_at, follows, follows_to, mutes, turn, turn_with}
+use Rattle.retro_cli.specs.Audience.{Audience, Turn, audience_after, followed, follows, follows_to, mutes, turn}
 use Rattle.retro_cli.specs.Events.{report_lines}
 use Rattle.retro_cli.specs.OutOfMemory.{AppendsAnswersToEarlier, IsMetAtLine}
 use Rattle.retro_cli.specs.Output.{answers_by, close_of, has_refusal_by, output_by, refuses_by, up_to_last_feed, whole_by}
-use Rattle.retro_cli.specs.Run.{AppendsAnswersTo, AppendsAnswersToTaken, whole_answers}
+use Rattle.retro_cli.specs.Run.{AppendsAnswersToTaken, whole_answers}
 use Rattle.retro_cli.proofs.Prefixes.{prefix_between}
 use Rattle.retro_cli.proofs.ReadSoFar.{IsRead, IsReadSoFar, fewer, lines_ahead, met_at_line, none_gives_none, piece_of, read_on}
 use Rattle.retro_cli.proofs.Reactions.{answers_by-line, answers_by-none, audience_after-line, bench_after-line, refuses_by-line, refuses_by-none, reports_of, whole_from}

@@ -7,7 +7,7 @@ use Rattle.std.proofs.lemmas.List.{take_all}
 use Rattle.evidence.specs.declared.evidence.Evidence.{Evidence}
 use Rattle.evidence.specs.Reading.{evidence_of}
 use Rattle.retro_io.specs.Lines.{lines}
-use Rattle.followers.specs.Followers.{HasTaken, Reporting}
+use Rattle.followers.specs.Followers.{Reporting}
 use Rattle.retro_cli.specs.Audience.{Audience, after_events, hears, follower_at, without}
 use Rattle.retro_cli.specs.Events.{events_among, events_spelled}
 use Rattle.followers.specs.TakenLaws.{first_same, others_same}

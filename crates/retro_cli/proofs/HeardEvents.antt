@@ -1,12 +1,9 @@
 -- Who is left after lines has heard the events among all answers to them.
 use Rattle.std.proofs.Common.{◌≡◌, ℕ, zero, suc, Bool, List, [], ◌∷◌, ◌++◌, refl, sym, ap, ◌∙◌, append-nil, append_assoc, Option, Some, None}
-use Rattle.std.proofs.Common.{Result}
 use Rattle.std.specs.List.{cons_option}
 use Rattle.std.proofs.Math.Path.{fun_ext}
 use Rattle.evidence.specs.declared.evidence.Evidence.{Evidence}
 use Rattle.retro_base.specs.LineLength.{is_long}
-use Rattle.script_grammar.specs.declared.command.Command.{Command}
-use Rattle.script_grammar.specs.declared.command.LineError.{LineError}
 use Rattle.followers.specs.Followers.{Reporting}
 use Rattle.followers.specs.Mirrors.{held, mirror_text}
 use Rattle.workbench.specs.declared.outcome.Outcome.TheVariants.{Refused}
@@ -14,8 +11,8 @@ use Rattle.workbench.specs.declared.outcome.Refusal.TheVariants as refusals
 use Rattle.workbench.specs.Answers.{reactions}
 use Rattle.workbench.specs.Bench.{Bench, NamedTimeline, OpenBlock, empty_bench}
 use Rattle.workbench.specs.Outcome.{refusal_text, reply_text}
-use Rattle.workbench.specs.Reaction.{Reaction, happens, outside, reacts, spelled}
-use Rattle.retro_cli.specs.Audience.{Audience, after_events, audience_after, follower_at, follows, hears, mutes, number_muted, turn, turn_with, without}
+use Rattle.workbench.specs.Reaction.{Reaction, happens, reacts}
+use Rattle.retro_cli.specs.Audience.{Audience, after_events, audience_after, follower_at, follows, hears, mutes, turn, turn_with, without}
 use Rattle.retro_cli.specs.Events.{events, events_among, events_spelled}
 use Rattle.retro_cli.specs.Mirrored.{ChangesAloneHoldThePresent, HasHeard, MirrorsReportThePresent, WhoIsLeftHasHeardAll}
 use Rattle.retro_base.specs.Facts.{one_value}

@@ -1,5 +1,5 @@
 -- What holds between two lines that are judged, how one more line keeps it, and that out of memory hides no refusal.
-use Rattle.std.proofs.Common.{◌≡◌, ℕ, suc, ◌+◌, ◌≤◌, Bool, true, false, List, [], ◌∷◌, length, refl, sym, ap, ◌∙◌, arith, Option, Some, None, Result, Ok, Err, subst, inl, inr}
+use Rattle.std.proofs.Common.{◌≡◌, ℕ, suc, ◌+◌, ◌≤◌, Bool, true, false, List, [], ◌∷◌, refl, sym, ap, ◌∙◌, arith, Option, Some, None, Result, Ok, Err}
 use Rattle.std.specs.Prelude.{IfSome, IsTrue, if◌then◌else◌, is_some, not, ◌⊎◌, unwrap_or}
 use Rattle.retro_io.specs.declared.mark.Mark.{Mark}
 use Rattle.retro_io.specs.declared.mark.Mark.TheVariants.{Whole, Long, End}
@@ -9,8 +9,8 @@ use Rattle.evidence.specs.declared.evidence.Evidence.{Evidence}
 use Rattle.evidence.specs.Reading.{evidence_of}
 use Rattle.evidence_check.specs.declared.error.CheckError.{CheckError}
 use Rattle.evidence_check.specs.declared.error.CheckError.TheVariants.{Syntax}
-use Rattle.evidence_check.specs.Judgement.{Judge, by_verdict, decided, first_cause, is_evidence_line, judged, judged_evidence, judged_line, judgement_from, nothing_reported}
-use Rattle.evidence_check.specs.Judgement.{reported_after, Reported, is_one_too_many, rows_of}
+use Rattle.evidence_check.specs.Judgement.{Judge, by_verdict, decided, first_cause, is_evidence_line, judged, judged_evidence, judged_line, judgement_from}
+use Rattle.evidence_check.specs.Judgement.{Reported, is_one_too_many, rows_of}
 use Rattle.retro_cli.specs.declared.judging.Refusal.{Refusal}
 use Rattle.retro_cli.specs.Judging.{RefusalIsRead, Verdict, so_far, against, judgement_after, judgement_of, lines_read, verdict_on, with_line, is_refusal, verdict}
 use Rattle.retro_base.specs.Facts.{some_is, some_is_not_none}

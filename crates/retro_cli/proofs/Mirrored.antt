@@ -20,7 +20,7 @@ use Rattle.retro_base.specs.Facts.{same_bytes}
 use Rattle.std.specs.Option.{option_map_or}
 use Rattle.std.specs.Result.{result_unwrap_or}
 use Rattle.retro_base.specs.declared.kind.Kind.{Kind}
-use Rattle.retro_base.specs.declared.kind.Kind.TheVariants.{Queue, Stack, Deque, Dict, Pq}
+use Rattle.retro_base.specs.declared.kind.Kind.TheVariants.{Pq}
 use Rattle.retro_base.specs.Bridges.{entries_of, survivors}
 use Rattle.retro_base.specs.Replay.{fold_rows, one_later, run}
 use Rattle.retro_base.specs.State.{State, empty, step}

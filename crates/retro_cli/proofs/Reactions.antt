@@ -1,11 +1,9 @@
 -- The answers to lines, and then to more.
-use Rattle.std.proofs.Common.{◌≡◌, ℕ, ◌+◌, ◌-◌, ◌<◌, Bool, ◌||◌, List, [], ◌∷◌, ◌++◌, length, take, drop, map, false, sym, ap, ◌∙◌, refl, arith, append_assoc, append-nil, length-append, Option, Some, None}
-use Rattle.std.specs.Ffi.{without_last}
+use Rattle.std.proofs.Common.{◌≡◌, ℕ, Bool, ◌||◌, List, [], ◌∷◌, ◌++◌, map, false, sym, ap, ◌∙◌, refl, arith, append_assoc, append-nil, Option}
 use Rattle.std.specs.List.{concat, list_any}
 use Rattle.std.proofs.Math.Bool.{or-false}
 use Rattle.std.proofs.Math.Path.{fun_ext}
-use Rattle.std.proofs.Math.Seq.{take-append_seam}
-use Rattle.std.proofs.lemmas.List.{map-append, take-append-drop, take-take}
+use Rattle.std.proofs.lemmas.List.{map-append}
 use Rattle.std.proofs.lemmas.List.Folds.{concat-append, list_any-append}
 use Rattle.workbench.specs.Answers.{reactions, bench_after}
 use Rattle.workbench.specs.Bench.{Bench, empty_bench}

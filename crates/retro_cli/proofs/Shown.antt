@@ -1,5 +1,5 @@
 -- What is shown of a line that was given, and that whoever answers or judges a line needs no more of it.
-use Rattle.std.proofs.Common.{◌≡◌, ℕ, Bool, true, false, List, length, take, refl, sym, ap, ◌∙◌, Option, Some, None, Result, Ok, Err, arith}
+use Rattle.std.proofs.Common.{◌≡◌, ℕ, Bool, true, false, List, length, take, refl, sym, ap, ◌∙◌, Option, Result, Ok, Err, arith}
 use Rattle.std.proofs.lemmas.Bool.{le-ltb, lt-ltb, ltb-false}
 use Rattle.std.proofs.lemmas.List.{take_all}
 use Rattle.retro_base.specs.LineLength.{is_long}
@@ -10,7 +10,7 @@ use Rattle.retro_io.specs.Marks.{Shows}
 use Rattle.evidence_check.specs.Judgement.{Judge, judged, judged_line}
 use Rattle.evidence_check.specs.JudgementLaws.{judged-first}
 use Rattle.workbench.specs.Bench.{Bench, OpenBlock}
-use Rattle.workbench.specs.Reaction.{reacts, reacts_to}
+use Rattle.workbench.specs.Reaction.{reacts}
 use Rattle.workbench.specs.ReactionLaws.{reacts-first}
 use Rattle.retro_cli.specs.Audience.{Audience, follows, follows_to, mutes, turn}
 use Rattle.retro_io.specs.declared.mark.ReadError.{ReadError}

@@ -14,7 +14,6 @@ use Rattle.script_grammar.specs.declared.command.LineError.{LineError}
 use Rattle.script_grammar.specs.declared.command.LineError.TheVariants as errors
 use Rattle.script_grammar.specs.BlockLines.{is_end}
 use Rattle.timeline_file.specs.declared.block.BlockError.{BlockError}
-use Rattle.timeline_file.specs.declared.block.BlockError.TheVariants as faults
 use Rattle.timeline_file.specs.Block.{finished}
 use Rattle.timeline_undo.specs.Back.{ShiftsCanBeMade}
 use Rattle.workbench.specs.declared.outcome.Outcome.TheVariants.{Silent, Accepted, Refused}

@@ -1,10 +1,10 @@
 -- The good rows of a block replay and are in range, and so does the timeline that they make.
-use Rattle.std.proofs.Common.{◌≡◌, ℕ, ◌+◌, ◌<◌, ◌≤◌, Bool, true, false, not, ◌&&◌, nat_le, nat_lt, cond, List, [], ◌∷◌, ◌++◌, length, refl, sym, ap, subst, arith, Option, Some, None}
+use Rattle.std.proofs.Common.{◌≡◌, ℕ, ◌<◌, ◌≤◌, Bool, true, false, not, ◌&&◌, nat_lt, cond, List, [], ◌∷◌, ◌++◌, length, refl, sym, ap, subst, arith, Option, Some, None}
 use Rattle.std.proofs.Common.{option_map, Result, Ok, Err}
 use Rattle.std.specs.Prelude.{◌==◌, is_some, IfSome}
 use Rattle.std.specs.List.{AllByRecursion}
 use Rattle.std.specs.Result.{result_err}
-use Rattle.std.proofs.lemmas.Bool.{and_parts, eqb-false, leb-false, ltb-true, or_parts}
+use Rattle.std.proofs.lemmas.Bool.{and_parts, eqb-false, ltb-true, or_parts}
 use Rattle.retro_base.specs.declared.kind.Kind.{Kind}
 use Rattle.retro_base.specs.declared.row.Row.{Row}
 use Rattle.retro_base.specs.Kind.{kind_of, same_kind}
@@ -18,7 +18,7 @@ use Rattle.timeline_file.specs.declared.block.BlockError.{BlockError}
 use Rattle.timeline_file.specs.declared.block.BlockError.TheVariants as errors
 use Rattle.timeline_file.specs.declared.block.RowCause.{RowCause}
 use Rattle.timeline_file.specs.declared.block.RowCause.TheVariants as causes
-use Rattle.timeline_file.specs.Block.{Block, after_row_line, are_below, begun, cause_of_row, decided, fault_of, finished, grown, has_count, has_number, last_time, row_line, taken}
+use Rattle.timeline_file.specs.Block.{Block, after_row_line, are_below, begun, cause_of_row, decided, fault_of, finished, grown, has_number, last_time, row_line, taken}
 use Rattle.timeline_file.specs.Block.{whole}
 use Rattle.workbench.specs.Bench.{OpenBlock}
 use Rattle.workbench.specs.Reaction.{of_block}

@@ -1,5 +1,5 @@
 -- What becomes of one timeline at a line: what is answered is reported truly, and the timeline stays a good one.
-use Rattle.std.proofs.Common.{◌≡◌, ℕ, ◌+◌, ◌-◌, ◌<◌, ◌≤◌, true, false, nat_le, cond, List, [], ◌∷◌, ◌++◌, length, slice_get, refl, sym, ap, ◌∙◌, subst, arith, Option, Some, None}
+use Rattle.std.proofs.Common.{◌≡◌, ℕ, ◌+◌, ◌-◌, ◌<◌, ◌≤◌, true, false, nat_le, cond, List, [], ◌∷◌, ◌++◌, length, slice_get, refl, sym, ◌∙◌, subst, arith, Option, Some, None}
 use Rattle.std.specs.Prelude.{IfSome, option_map, option_and_then}
 use Rattle.std.specs.List.{insert}
 use Rattle.std.proofs.lemmas.Bool.{leb-false}
@@ -16,8 +16,6 @@ use Rattle.retro_base.specs.Replay.{IsValid, failure}
 use Rattle.evidence_check.specs.Judgement.{Judge}
 use Rattle.evidence_check.specs.Laws.{EditsAreSpelled, EditsAreReported}
 use Rattle.script_grammar.specs.SpellingLaws.{HasValues}
-use Rattle.script_grammar.specs.declared.command.Moment.{Moment}
-use Rattle.script_grammar.specs.declared.command.Query.{Query}
 use Rattle.script_grammar.specs.declared.command.Spot.{Spot}
 use Rattle.timeline_undo.specs.History.{newest, newest_step, older_steps}
 use Rattle.timeline_undo.specs.Back.{ShiftsCanBeMade}
@@ -33,14 +31,14 @@ use Rattle.workbench.specs.declared.outcome.Refusal.TheVariants as refusals
 use Rattle.workbench.specs.declared.position.Position.{Position}
 use Rattle.workbench.specs.Bench.{NamedTimeline}
 use Rattle.workbench.specs.Outcome.{reply_text}
-use Rattle.workbench.specs.TimelineEffects.{TimelineEffect, accepted_or_refused, after_step, makes, shifts_there, shifts_by, shifts, moves, changes, answers, answers_fate, cut_of}
+use Rattle.workbench.specs.TimelineEffects.{TimelineEffect, accepted_or_refused, after_step, makes, shifts_there, shifts_by, shifts, moves, changes, cut_of}
 use Rattle.workbench.specs.TimelineEffects.{deletes, deletes_by, edits, inserts, inserts_at, inserts_there, new_row, position_of, redoes, redoes_step, refusal_at, refuses, row_named}
-use Rattle.workbench.specs.TimelineEffects.{saves, unchanged, undoes, undoes_step, where_one_fits}
+use Rattle.workbench.specs.TimelineEffects.{unchanged, undoes, undoes_step, where_one_fits}
 use Rattle.workbench.specs.Reported.{evidence_of_step, reported}
 use Rattle.retro_cli.proofs.accepted.Leads.{Leads, leads_last, leads_later, leads_more, leads_so}
 use Rattle.retro_cli.proofs.accepted.Printable.{NamesTimeline}
 use Rattle.retro_cli.proofs.accepted.Telling.{Agrees, HasReported, is_listed, tells_same, tells_step}
-use Rattle.retro_cli.proofs.accepted.Passing.{IsPassedOver, accepted_passes, answer_passes, fate_passes, inserted_passes, refusal_passes, saved_passes}
+use Rattle.retro_cli.proofs.accepted.Passing.{IsPassedOver, accepted_passes, inserted_passes, refusal_passes}
 use Rattle.retro_cli.proofs.accepted.Positions.{IsCutOf, cut_is, position_within, same_kind_is}
 
 -- the rows of which evidence tells

@@ -1,5 +1,5 @@
 -- Edits that are made one after another, each in rows that replay and are in range, and each leading to such rows.
-use Rattle.std.proofs.Common.{◌≡◌, ℕ, suc, ◌<◌, ◌≤◌, List, [], ◌∷◌, ◌++◌, length, ℤ, pos, negsuc, sym, ap, ◌∙◌, subst, arith, append_assoc, append-nil, length-append, ◌≢◌, ◌+◌, true}
+use Rattle.std.proofs.Common.{◌≡◌, ℕ, suc, ◌<◌, ◌≤◌, List, [], ◌∷◌, ◌++◌, length, ℤ, sym, ap, ◌∙◌, subst, arith, append_assoc, append-nil, length-append, ◌≢◌, ◌+◌, true}
 use Rattle.std.proofs.Common.{false, slice_get, Some, refl}
 use Rattle.std.specs.List.{AllByRecursion, insert, remove}
 use Rattle.std.proofs.lemmas.List.Edits.{insert_end, length-insert, length-remove}
@@ -7,7 +7,6 @@ use Rattle.std.proofs.Math.Seq.{take-append_seam}
 use Rattle.retro_base.specs.declared.kind.Kind.{Kind}
 use Rattle.retro_base.specs.declared.kind.Kind.TheVariants.{Pq}
 use Rattle.retro_base.specs.declared.op.Op.{Op}
-use Rattle.retro_base.specs.declared.op.Op.TheVariants.{Enq, Deq, Push, Pop, PushL, PushR, PopL, PopR, Put, Del, Ins, DelMin}
 use Rattle.retro_base.specs.declared.row.Row.{Row}
 use Rattle.retro_base.specs.Carried.{IsPqEdit}
 use Rattle.retro_base.specs.EditedLists.{can_go_back, there_and_back, remove-insert}

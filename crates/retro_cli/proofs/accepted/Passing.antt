@@ -3,7 +3,6 @@ use Rattle.std.proofs.Common.{◌≡◌, ℕ, true, false, cond, List, [], ◌�
 use Rattle.std.specs.Prelude.{codes, decimal}
 use Rattle.retro_base.specs.declared.kind.Kind.{Kind}
 use Rattle.retro_base.specs.declared.question.Answer.{Answer}
-use Rattle.retro_base.specs.declared.question.Answer.TheVariants as answered
 use Rattle.retro_base.specs.declared.question.Item.{Item}
 use Rattle.retro_base.specs.declared.row.Row.{Row}
 use Rattle.retro_base.specs.Name.{is_name}

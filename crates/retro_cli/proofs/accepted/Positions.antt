@@ -4,7 +4,6 @@ use Rattle.std.specs.Prelude.{option_and_then, IfSome}
 use Rattle.std.proofs.lemmas.List.Sums.{count_by-le-length}
 use Rattle.std.proofs.lemmas.Option.{slice_get_within}
 use Rattle.retro_base.specs.declared.kind.Kind.{Kind}
-use Rattle.retro_base.specs.declared.kind.Kind.TheVariants.{Queue, Stack, Deque, Dict, Pq}
 use Rattle.retro_base.specs.declared.row.Row.{Row}
 use Rattle.retro_base.specs.Edits.{Edit, add, cut}
 use Rattle.retro_base.specs.Kind.{same_kind}

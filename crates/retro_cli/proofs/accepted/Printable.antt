@@ -1,18 +1,14 @@
 -- Every line that answers is without bytes below the space: so it holds no line feed and ends in no carriage return.
-use Rattle.std.proofs.Common.{◌≡◌, ℕ, suc, zero, ◌+◌, ◌/◌, ◌%◌, ◌<◌, ℤ, pos, negsuc, Bool, true, false, not, ◌&&◌, nat_le, cond, List, [], ◌∷◌, ◌++◌, length, codes, decimal, refl, arith, Option, Some, None}
-use Rattle.std.specs.Prelude.{◌==◌, nat_lt}
+use Rattle.std.proofs.Common.{◌≡◌, ℕ, suc, zero, ◌/◌, ◌%◌, ◌<◌, ℤ, Bool, true, false, not, ◌&&◌, nat_le, cond, List, [], ◌∷◌, ◌++◌, length, codes, decimal, refl, arith, Option}
+use Rattle.std.specs.Prelude.{◌==◌}
 use Rattle.std.specs.Fmt.{digit_glyph, digits, digits_onto}
 use Rattle.std.specs.Fmt.{signed_decimal}
 use Rattle.std.specs.List.{list_all, flat_map}
-use Rattle.std.proofs.lemmas.Bool.{and_from, and_parts, le-leb, leb-false, lt-leb, ne_eqb}
+use Rattle.std.proofs.lemmas.Bool.{and_from, and_parts, lt-leb, ne_eqb}
 use Rattle.retro_base.specs.declared.kind.Kind.{Kind}
-use Rattle.retro_base.specs.declared.kind.Kind.TheVariants.{Queue, Stack, Deque, Dict, Pq}
 use Rattle.retro_base.specs.declared.op.Op.{Op}
-use Rattle.retro_base.specs.declared.op.Op.TheVariants.{Enq, Deq, Push, Pop, PushL, PushR, PopL, PopR, Put, Del, Ins, DelMin}
 use Rattle.retro_base.specs.declared.question.Answer.{Answer}
-use Rattle.retro_base.specs.declared.question.Answer.TheVariants.{Number, Pair, Nothing}
 use Rattle.retro_base.specs.declared.question.Item.{Item}
-use Rattle.retro_base.specs.declared.question.Item.TheVariants as contents
 use Rattle.retro_base.specs.declared.row.Change.{Change}
 use Rattle.retro_base.specs.declared.row.Change.TheVariants.{Plain, Gain, Lose}
 use Rattle.retro_base.specs.declared.row.Entry.{Entry}
@@ -22,10 +18,9 @@ use Rattle.retro_base.specs.Name.{is_name, is_name_byte, is_reserved, starts_wit
 use Rattle.retro_base.specs.OpText.{op_text}
 use Rattle.evidence.specs.declared.evidence.Evidence.{Evidence}
 use Rattle.evidence_check.specs.Judgement.{is_evidence_line}
-use Rattle.evidence.specs.Spelling.{spelling, edit_text, row_text, bridge_text, change_text, entry_text}
+use Rattle.evidence.specs.Spelling.{spelling, edit_text, bridge_text, change_text, entry_text}
 use Rattle.script_grammar.specs.AnswerText.{answer_text, item_text, listing_text}
 use Rattle.timeline_file.specs.declared.block.RowCause.{RowCause}
-use Rattle.timeline_file.specs.declared.block.RowCause.TheVariants as causes
 use Rattle.timeline_file.specs.Saved.{header_text, kind_text}
 use Rattle.timeline_file.specs.Saved as files
 use Rattle.workbench.specs.declared.outcome.Refusal.{Refusal}

@@ -1,8 +1,7 @@
 -- The name of a command is one, and the numbers of a command and of a row line are in their ranges.
-use Rattle.std.proofs.Common.{◌≡◌, ℕ, zero, suc, ◌-◌, ◌^◌, ◌≤◌, nat_le, ◌&&◌, ℤ, pos, Bool, true, false, cond, refl, arith, List, [], ◌∷◌}
+use Rattle.std.proofs.Common.{◌≡◌, ℕ, zero, suc, ◌-◌, ◌^◌, ◌≤◌, ℤ, pos, Bool, true, cond, arith, List, [], ◌∷◌}
 use Rattle.std.specs.Prelude.{◌==◌, neg_ℤ, Option, Some, None, option_map, option_and_then, IfSome, IfOk}
 use Rattle.std.specs.Option.{ok_or}
-use Rattle.std.proofs.lemmas.Bool.{and_parts, leb-true}
 use Rattle.retro_base.specs.declared.kind.Kind.{Kind}
 use Rattle.retro_base.specs.declared.row.Row.{Row}
 use Rattle.retro_base.specs.Limits.{next_limit}

@@ -8,7 +8,7 @@ use Rattle.std.proofs.lemmas.Slice.Eq.{bytes_eq-Decides}
 use Rattle.retro_base.specs.declared.kind.Kind.TheVariants.{Pq}
 use Rattle.retro_base.specs.declared.row.Row.{Row}
 use Rattle.retro_base.specs.Changes.{change_of}
-use Rattle.retro_base.specs.Edits.{Edit, Step, add, cut, edited}
+use Rattle.retro_base.specs.Edits.{Edit, Step, edited}
 use Rattle.retro_base.specs.Limits.{most_timelines}
 use Rattle.retro_base.specs.Name.{is_name}
 use Rattle.evidence.specs.declared.evidence.Evidence.{Evidence}

@@ -87,7 +87,7 @@ returns-in_err-refused-in-End-clause-stands g c =
     (stands_at_answer g.S.Source g.K.Sink g.K.SendingSink.sends _ _ (source_of before) (source_of now) _ _ _ _ c.in_err-refused-in-End.field-0.0
     (StaysUnflushed-more g.K.Sink g.K.SendingSink.sends _ _ _ c.loop-text.invariant.unflushed c.in_ok-send_before_read.ensures.unflushed)
     c.in_err-refused-in-End.ensures.writes
-    (λ script from part. part_at_end g.S.Source _ script _ _ (source_of before) (source_of now) (held before) (held now) (line_of now) _ _ _ _ _ _ (on script from) 
+    (λ script from part. part_at_end g.S.Source _ script _ _ (source_of before) (source_of now) (held before) (held now) (line_of now) _ _ _ _ _ _ (on script from)
     (takes_end g.S.Source _ script _ _ (source_of before) (source_of now) (held before) (held now) (line_of now) _ _ _ _ _ _ (on script from)
     (has_ended now) (has_ended before) (limit_of before - taken before) _ (rw c.in-End.is at c.in_ok-next_line.ensures.took) now.none_left) _ part)
     (λ script from.
@@ -110,15 +110,15 @@ returns-in-End-clause-answered g c =
     record {
       ended = (c.in_ok-next_line.ensures.gives.at_end c.in-End.is).2;
       output = told (λ script. AppendsOutput (followed who) script (g.K.Sink.written c.args.sink.now) (g.K.Sink.written c.answer_end.new.sink)) _ tt
-          (λ script from. output_at_end g.S.Source _ script _ _ (source_of before) (source_of now) (held before) (held now) (line_of now) _ _ _ _ _ _ (on script from) 
-    (takes_end g.S.Source _ script _ _ (source_of before) (source_of now) (held before) (held now) (line_of now) _ _ _ _ _ _ (on script from)
-    (has_ended now) (has_ended before) (limit_of before - taken before) _ (rw c.in-End.is at c.in_ok-next_line.ensures.took) now.none_left) _ closed.writes.0);
+          (λ script from. output_at_end g.S.Source _ script _ _ (source_of before) (source_of now) (held before) (held now) (line_of now) _ _ _ _ _ _ (on script from)
+          (takes_end g.S.Source _ script _ _ (source_of before) (source_of now) (held before) (held now) (line_of now) _ _ _ _ _ _ (on script from)
+          (has_ended now) (has_ended before) (limit_of before - taken before) _ (rw c.in-End.is at c.in_ok-next_line.ensures.took) now.none_left) _ closed.writes.0);
       unflushed = StaysUnflushed-more g.K.Sink g.K.SendingSink.sends _ _ _
           (StaysUnflushed-more g.K.Sink g.K.SendingSink.sends _ _ _ c.loop-text.invariant.unflushed c.in_ok-send_before_read.ensures.unflushed) closed.writes.1;
       refusal = rw closed.refused (told (λ script. MatchesRefusal (followed who) script (c.loop-text.refused || (closing c.loop-text.bench.bench).refused)) _ tt
-          (λ script from. refusal_at_end g.S.Source _ script _ _ (source_of before) (source_of now) (held before) (held now) (line_of now) _ _ _ _ _ _ (on script from) 
-    (takes_end g.S.Source _ script _ _ (source_of before) (source_of now) (held before) (held now) (line_of now) _ _ _ _ _ _ (on script from)
-    (has_ended now) (has_ended before) (limit_of before - taken before) _ (rw c.in-End.is at c.in_ok-next_line.ensures.took) now.none_left)));
+          (λ script from. refusal_at_end g.S.Source _ script _ _ (source_of before) (source_of now) (held before) (held now) (line_of now) _ _ _ _ _ _ (on script from)
+          (takes_end g.S.Source _ script _ _ (source_of before) (source_of now) (held before) (held now) (line_of now) _ _ _ _ _ _ (on script from)
+          (has_ended now) (has_ended before) (limit_of before - taken before) _ (rw c.in-End.is at c.in_ok-next_line.ensures.took) now.none_left)));
     }
 
 pub returns-in-End-clause-handed : goal.returns-in-End-clause-handed
