@@ -1,4 +1,4 @@
-//! The priority queue by bridges: its rows one by one, and its copies. What it answers besides is seen through its checkpoints.
+//! The priority queue by bridges: its rows one by one, which fail, and its copies. What it answers besides is seen through its checkpoints.
 
 ghost use Rattle.std.specs.Prelude.{◌<◌};
 ghost use Rattle.retro_base.specs.Visits.{OpensCounter};
@@ -41,6 +41,30 @@ impl Bridges {
 
     fn queue(&self) -> &BridgeQueue {
         &self.queue
+    }
+
+    /// The row that fails once a row of the operation is put in.
+    fn failing_with<L: Ledger>(
+        &self,
+        rt: &impl Abort,
+        place: u32,
+        op: Op,
+        steps: &mut Steps<L>,
+    ) -> Option<u32> {
+        assert!(rt; place <= self.queue.len());
+        assert!(rt; op.kind() == self.queue.kind());
+        self.queue.failure_after_insert(place, op, steps)
+    }
+
+    /// The row that fails once the row at the place is taken out.
+    fn failing_without<L: Ledger>(
+        &self,
+        rt: &impl Abort,
+        place: u32,
+        steps: &mut Steps<L>,
+    ) -> Option<u32> {
+        assert!(rt; place < self.queue.len());
+        self.queue.failure_after_remove(place, steps)
     }
 
     /// Puts a row in that can be performed.
@@ -103,6 +127,30 @@ fn three_rows<L: Ledger>(rt: &impl Abort, alloc: Global, steps: &mut Steps<L>) -
     bridges
 }
 
+fn expect_failures<L: Ledger>(rt: &impl Abort, bridges: &Bridges, steps: &mut Steps<L>) {
+    for (place, index) in [(0, Some(0)), (1, None), (2, None), (3, None)] {
+        let failing = bridges.failing_with(rt, place, Op::DelMin, steps);
+        assert!(rt; failing == index);
+    }
+    for (place, index) in [(0, None), (1, None), (2, None)] {
+        assert!(rt; bridges.failing_without(rt, place, steps) == index);
+    }
+}
+
+/// Of `ins 4` and `delmin` no more can be taken, and nothing that is taken goes.
+fn expect_refusals<L: Ledger>(rt: &impl Abort, alloc: Global, steps: &mut Steps<L>) {
+    let mut bridges = Bridges::new(alloc);
+    for (place, op) in [(0, FOUR), (1, Op::DelMin)] {
+        bridges.put(rt, place, op, steps);
+    }
+    for place in [1, 2] {
+        let failing = bridges.failing_with(rt, place, Op::DelMin, steps);
+        assert!(rt; failing == Some(2));
+    }
+    assert!(rt; bridges.failing_without(rt, 0, steps) == Some(0));
+    drop(bridges);
+}
+
 /// Sees that the present has entries of these keys.
 fn expect_content(rt: &impl Abort, queue: &BridgeQueue, keys: &[i64]) {
     expect_values(rt, &queue.all_now().expect(rt, "memory"), keys);
@@ -125,6 +173,8 @@ fn worked<L: Ledger>(rt: &impl Abort, alloc: Global, blank: Blank)
 {
     let mut steps = Steps::<L>::new(blank);
     let mut bridges = three_rows(rt, alloc, &mut steps);
+    expect_failures(rt, &bridges, &mut steps);
+    expect_refusals(rt, alloc, &mut steps);
     expect_content(rt, bridges.queue(), &[4]);
     expect_copy(rt, &mut bridges, &mut steps);
     drop(bridges);

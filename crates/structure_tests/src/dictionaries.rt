@@ -65,6 +65,48 @@ fn a_row_comes_in_between(rt: HostRuntime) {
     drop(history);
 }
 
+const LOW: Item = Item::Pair {
+    key: i64::MIN,
+    value: i64::MAX,
+};
+
+const HIGH: Item = Item::Pair {
+    key: i64::MAX,
+    value: i64::MAX,
+};
+
+/// The least key and the greatest one.
+const BOTH_ENDS: &[Step<'static>] = &[
+    Step::Put(
+        0,
+        0,
+        Op::Put {
+            key: i64::MIN,
+            value: i64::MAX,
+        },
+        Change::Plain,
+    ),
+    Step::Put(
+        1,
+        0,
+        Op::Put {
+            key: i64::MAX,
+            value: i64::MAX,
+        },
+        Change::Plain,
+    ),
+    Step::Items(2, &[LOW, HIGH]),
+    Step::Items(1, &[LOW]),
+    Step::Items(0, &[]),
+];
+
+#[test]
+fn the_least_and_the_greatest_key_are_there(rt: HostRuntime) {
+    let mut history = History::new(RetroDictionary::new(rt.alloc()));
+    history.play(&rt, BOTH_ENDS);
+    drop(history);
+}
+
 const FORTY_ONE: &[Step<'static>] = &[
     Step::Ask(0, GET, Answer::Nothing),
     Step::Ask(1, GET, Answer::Number { value: 40 }),
