@@ -5,7 +5,7 @@ ghost use Rattle.std.specs.List.{insert, remove};
 ghost use Rattle.weighted_tree.specs.Measures.{measure_in};
 ghost use Rattle.weighted_tree.specs.Nodes.{full};
 
-use crate::leaf_edit::{put_for, put_in, take_out};
+use crate::leaf_edit::{insert_item, put_for, remove_item};
 use crate::room::make_room;
 use crate::subtree::Node;
 use monoid_laws::Measured;
@@ -142,7 +142,7 @@ impl<T: Measured> ClosedItems<T> {
         ensures visit { steps.new ≡ steps.old + 1 }
     {
         steps.tick();
-        put_in(&mut self.items, place, item, measure)
+        insert_item(&mut self.items, place, item, measure)
     }
 
     /// Visits the leaf, takes the item at a place out, and gives it.
@@ -163,7 +163,7 @@ impl<T: Measured> ClosedItems<T> {
         ensures visit { steps.new ≡ steps.old + 1 }
     {
         steps.tick();
-        take_out(&mut self.items, place, measure)
+        remove_item(&mut self.items, place, measure)
     }
 
     /// Visits the leaf, puts another item at a place, and gives the one that was there.

@@ -6,7 +6,7 @@ ghost use Rattle.weighted_tree.specs.Levels.{FourALevel};
 ghost use Rattle.weighted_tree.specs.Nodes.{full};
 
 use crate::leaf::{FULL, divide};
-use crate::leaf_edit::{exchanged, put_in};
+use crate::leaf_edit::{exchanged, insert_item};
 use crate::node::Side;
 use crate::subtree::{Link, Node, Subtree};
 use monoid_laws::{Measured, Monoid};
@@ -89,7 +89,7 @@ impl<T: Measured> Subtree<T> {
         let mut items = self.take_or_new(alloc, steps);
         let place = place as usize;
         if items.len() < FULL {
-            let done = put_in(&mut items, place, item, &mut measure);
+            let done = insert_item(&mut items, place, item, &mut measure);
             *self = Subtree::of_measured(items, measure);
             return done;
         }

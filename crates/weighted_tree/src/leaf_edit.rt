@@ -10,7 +10,7 @@ use monoid_laws::{Measured, Monoid};
 use retro_base::NoMemory;
 
 /// Puts one more item in at a place.
-pub(crate) fn put_in<T: Measured>(
+pub(crate) fn insert_item<T: Measured>(
     items: &mut Vec<T>,
     place: usize,
     item: T,
@@ -35,7 +35,11 @@ pub(crate) fn put_in<T: Measured>(
 }
 
 /// Takes the item at a place out, and gives it.
-pub(crate) fn take_out<T: Measured>(items: &mut Vec<T>, place: usize, measure: &mut T::Measure) -> T
+pub(crate) fn remove_item<T: Measured>(
+    items: &mut Vec<T>,
+    place: usize,
+    measure: &mut T::Measure,
+) -> T
     requires within { place < length items.old.items }
     requires few { length items.old.items ≤ full }
     requires told { measure.old ≡ measure_in T.Measured T.Measure.Monoid items.old.items }

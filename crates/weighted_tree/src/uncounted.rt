@@ -69,10 +69,10 @@ pub fn insert<T: Measured>(tree: &mut Tree<T>, place: u32, item: T) -> Result<()
     ensures ok { OnOk result (tree.new ≡ insert tree.old place item) }
     ensures err { OnErr result (tree.new ≡ tree.old) }
 {
-    put_in::<T, Brand>(tree, place, item, Blank::new(1))
+    insert_with_counter::<T, Brand>(tree, place, item, Blank::new(1))
 }
 
-fn put_in<T: Measured, L: Ledger>(
+fn insert_with_counter<T: Measured, L: Ledger>(
     tree: &mut Tree<T>,
     place: u32,
     item: T,
@@ -94,10 +94,10 @@ pub fn remove<T: Measured>(tree: &mut Tree<T>, place: u32) -> T
     ensures item { slice_get tree.old place ≡ Some result }
     ensures items { tree.new ≡ remove tree.old place }
 {
-    take_out::<T, Brand>(tree, place, Blank::new(1))
+    remove_with_counter::<T, Brand>(tree, place, Blank::new(1))
 }
 
-fn take_out<T: Measured, L: Ledger>(tree: &mut Tree<T>, place: u32, blank: Blank) -> T
+fn remove_with_counter<T: Measured, L: Ledger>(tree: &mut Tree<T>, place: u32, blank: Blank) -> T
     requires within { place < length tree.old }
     requires counter { OpensCounter blank.name L.name blank.parts L.parts }
     ensures item { slice_get tree.old place ≡ Some result }

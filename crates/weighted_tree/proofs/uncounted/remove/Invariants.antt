@@ -1,4 +1,4 @@
 use Rattle.weighted_tree.proofs.uncounted.remove.Given as goal
 
-abbrev pub ghosts-take_out : goal.ghosts-take_out
-ghosts-take_out g a = record { name = a.blank.name; parts = a.blank.parts }
+abbrev pub ghosts-remove_with_counter : goal.ghosts-remove_with_counter
+ghosts-remove_with_counter g a = record { name = a.blank.name; parts = a.blank.parts }

@@ -1,7 +1,7 @@
 use Rattle.std.proofs.Common.{refl, ◌∙◌, arith, length}
 use Rattle.std.proofs.lemmas.Option.{slice_get_read}
 use Rattle.weighted_tree.proofs.Told.{told_without}
-use Rattle.weighted_tree.proofs.leaf_edit.take_out.Goals as goal
+use Rattle.weighted_tree.proofs.leaf_edit.remove_item.Goals as goal
 
 pub measure_told-requires-clause-told : goal.measure_told-requires-clause-told
 measure_told-requires-clause-told g c =
