@@ -89,36 +89,36 @@ bridge_no_spaces None is = refl
 bridge_no_spaces (Some bridge) is = decimal_no_spaces bridge (omega arith)
 
 -- word by word
-cut_entry : (entry : Entry) → IsPqEntry entry → words (entry_text entry) ≡ entry_words entry
-cut_entry entry is =
+words_of_entry : (entry : Entry) → IsPqEntry entry → words (entry_text entry) ≡ entry_words entry
+words_of_entry entry is =
     word_then (number_text entry.number) (signed_decimal entry.key) (decimal_no_spaces entry.number (omega (arith, is.1.1)))
     ∙ ap (λ rest. number_text entry.number ∷ rest) (word_alone (signed_decimal entry.key) (value_no_spaces entry.key is.0))
 
-cut_changed : (bridge : Option ℕ) (word : List ℕ) (entry : Entry) → IsPlaceOrNone bridge → no_spaces word ≡ true → IsPqEntry entry
+words_of_changed : (bridge : Option ℕ) (word : List ℕ) (entry : Entry) → IsPlaceOrNone bridge → no_spaces word ≡ true → IsPqEntry entry
     → words (codes "bridge" ++ 32 ∷ (bridge_text bridge ++ 32 ∷ (word ++ 32 ∷ entry_text entry))) ≡ changed_words bridge word entry
-cut_changed bridge word entry place one is =
+words_of_changed bridge word entry place one is =
     ap (λ rest. codes "bridge" ∷ rest) (
     word_then (bridge_text bridge) (word ++ 32 ∷ entry_text entry) (bridge_no_spaces bridge place)
-    ∙ ap (λ rest. bridge_text bridge ∷ rest) (word_then word (entry_text entry) one ∙ ap (λ rest. word ∷ rest) (cut_entry entry is)))
+    ∙ ap (λ rest. bridge_text bridge ∷ rest) (word_then word (entry_text entry) one ∙ ap (λ rest. word ∷ rest) (words_of_entry entry is)))
 
-cut_change : (change : Change) → IsStatedChange change → words (change_text change) ≡ change_words change
-cut_change Plain is = absurd is
-cut_change (Gain bridge entry) is = cut_changed (Some bridge) (codes "gain") entry is.0 refl is.1
-cut_change (Lose bridge entry) is = cut_changed bridge (codes "lose") entry is.0 refl is.1
+words_of_change : (change : Change) → IsStatedChange change → words (change_text change) ≡ change_words change
+words_of_change Plain is = absurd is
+words_of_change (Gain bridge entry) is = words_of_changed (Some bridge) (codes "gain") entry is.0 refl is.1
+words_of_change (Lose bridge entry) is = words_of_changed bridge (codes "lose") entry is.0 refl is.1
 
-cut_op : (op : Op) (rest : List ℕ) → IsPqOp op → words (op_text op ++ 32 ∷ rest) ≡ op_words op (words rest)
-cut_op (Enq v) rest is = absurd is
-cut_op Deq rest is = absurd is
-cut_op (Push v) rest is = absurd is
-cut_op Pop rest is = absurd is
-cut_op (PushL v) rest is = absurd is
-cut_op (PushR v) rest is = absurd is
-cut_op PopL rest is = absurd is
-cut_op PopR rest is = absurd is
-cut_op (Put k v) rest is = absurd is
-cut_op (Del k) rest is = absurd is
-cut_op (Ins key) rest is = ap (λ others. codes "ins" ∷ others) (word_then (signed_decimal key) rest (value_no_spaces key is))
-cut_op DelMin rest is = refl
+words_of_op : (op : Op) (rest : List ℕ) → IsPqOp op → words (op_text op ++ 32 ∷ rest) ≡ op_words op (words rest)
+words_of_op (Enq v) rest is = absurd is
+words_of_op Deq rest is = absurd is
+words_of_op (Push v) rest is = absurd is
+words_of_op Pop rest is = absurd is
+words_of_op (PushL v) rest is = absurd is
+words_of_op (PushR v) rest is = absurd is
+words_of_op PopL rest is = absurd is
+words_of_op PopR rest is = absurd is
+words_of_op (Put k v) rest is = absurd is
+words_of_op (Del k) rest is = absurd is
+words_of_op (Ins key) rest is = ap (λ others. codes "ins" ∷ others) (word_then (signed_decimal key) rest (value_no_spaces key is))
+words_of_op DelMin rest is = refl
 
 edit_no_spaces : (added : Bool) → no_spaces (edit_word added) ≡ true
 edit_no_spaces true = refl
@@ -149,5 +149,5 @@ words_of_line e is =
     let from_place : List ℕ = decimal e.place ++ 32 ∷ from_number in
     let from_edit : List ℕ = edit_word e.added ++ 32 ∷ from_place in
     let nested : spelling e ≡ codes "edit" ++ 32 ∷ (e.name ++ 32 ∷ from_edit) = simp append_assoc in
-    let after : words from_op ≡ op_words e.op (change_words e.change) = cut_op e.op change is.op ∙ ap (λ rest. op_words e.op rest) (cut_change e.change is.change) in
+    let after : words from_op ≡ op_words e.op (change_words e.change) = words_of_op e.op change is.op ∙ ap (λ rest. op_words e.op rest) (words_of_change e.change is.change) in
     nested_words e is from_op after nested
