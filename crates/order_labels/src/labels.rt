@@ -68,7 +68,7 @@ impl Labels {
         ensures length { OnOk result (length self.new ≡ length self.old + 1) }
         ensures err { OnErr result (self.new ≡ self.old) }
     {
-        put_in(&mut self.rows, place)
+        insert_label(&mut self.rows, place)
     }
 
     /// Gives a new row at a place a label of the caller's choice, between those beside it. After `NoMemory` all is as before.
@@ -117,7 +117,7 @@ impl Labels {
     }
 }
 
-fn put_in(rows: &mut Tree<Label>, place: u32) -> Result<Fresh, NoMemory>
+fn insert_label(rows: &mut Tree<Label>, place: u32) -> Result<Fresh, NoMemory>
     requires within { place ≤ length rows.old }
     requires room { length rows.old < most_rows }
     requires labels { AreLabels rows.old }

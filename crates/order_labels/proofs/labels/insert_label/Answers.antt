@@ -3,7 +3,7 @@ use Rattle.order_labels.specs.Labels.{AreApart, label_limit, least_gap}
 use Rattle.order_labels.specs.ApartLaws.{gap_at, after_within}
 use Rattle.order_labels.specs.SpreadLaws.{spread-wide}
 use Rattle.order_labels.proofs.Rule.{read_back, length-spread_with, length-with}
-use Rattle.order_labels.proofs.labels.put_in.Goals as goal
+use Rattle.order_labels.proofs.labels.insert_label.Goals as goal
 
 pub overflow_sub-after : goal.overflow_sub-after
 overflow_sub-after c = omega (arith, gap_at 1 0 label_limit c.args.rows.now c.args.place c.requires.within c.requires.labels.rising, c.labels_beside-before.ensures.before, c.labels_beside-before.ensures.after_it)
