@@ -87,8 +87,8 @@ module _ (key : ℤ) where
   sorted_without (e ∷ es) s =
       elim (int_eq key e.0) as (λ b. AreSorted (cond b es (e ∷ remove_entry (int_eq key) es))) [ true ↦ s.1 | false ↦ (above_without e.0 es s.0, sorted_without es s.1) ]
 
-  cut_has : (q : ℤ) (ps : List (ℤ × ℤ)) → AreSorted ps → has q (remove_entry (int_eq key) ps) ≡ cond (int_eq key q) false (has q ps)
-  cut_has q ps s =
+  removed_has : (q : ℤ) (ps : List (ℤ × ℤ)) → AreSorted ps → has q (remove_entry (int_eq key) ps) ≡ cond (int_eq key q) false (has q ps)
+  removed_has q ps s =
       ap is_some (lookup-remove_entry int_eq_equiv (int_eq key) (λ x y h. int_eq_equiv.congr key x y h) q ps (IsDistinct-from_sorted int_cmp (keys_of ps) s))
       ∙ (elim (int_eq key q) as (λ b. is_some (cond b None (lookup (int_eq q) ps)) ≡ cond b false (has q ps)) [ true ↦ refl | false ↦ refl ])
 
@@ -139,7 +139,7 @@ fails_is ((label, Del k) ∷ rows) ps there dict s same =
           run_goes (as_row (label, Del k)) (map as_row rows) (pairs ps) (pairs (remove_entry (int_eq k) ps))
           (del_steps label k ps ∙ ap (λ b. option_map pairs (if b then Some (remove_entry (int_eq k) ps) else None)) here)
           ∙ ap (option_map suc) (fails_is rows (remove_entry (int_eq k) ps) (there_after (label, Del k) there) dict.1 (sorted_without k ps s)
-          (λ key. cut_has k key ps s ∙ ap (λ h. cond (int_eq k key) false h) (same key)))
+          (λ key. removed_has k key ps s ∙ ap (λ h. cond (int_eq k key) false h) (same key)))
           ∙ ap (λ b. cond (not b) (Some 0) (option_map suc (fails (there_after (label, Del k) there) rows))) (sym here ∙ same k)
       | false ↦ λ gone.
           run_stops (as_row (label, Del k)) (map as_row rows) (pairs ps) (del_steps label k ps ∙ ap (λ b. option_map pairs (if b then Some (remove_entry (int_eq k) ps) else None)) gone)

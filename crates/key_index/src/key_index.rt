@@ -10,7 +10,9 @@ ghost use Rattle.key_index.specs.Relabelled.{Rise, HoldsLabels, relabelled};
 use crate::labels::Labels2;
 use crate::row::KeyRow;
 use crate::rows_beside::{RowsBeside, is_there, taken_at};
-use crate::tree::{around, beside, first_above, last_up_to, op_of, put_in, relabel, take_out};
+use crate::tree::{
+    around, beside, first_above, insert_key_row, last_up_to, op_of, relabel, remove_key_row,
+};
 use retro_base::{NoMemory, Op};
 use std::alloc::Global;
 use std::marker::Model;
@@ -74,7 +76,7 @@ impl KeyIndex {
         ensures beside { IfOk result (λ rows. rows ≡ beside (key_of op) label self.old) }
         ensures err { OnErr result (self.new ≡ self.old) }
     {
-        put_in(&mut self.by_key, label, op)
+        insert_key_row(&mut self.by_key, label, op)
     }
 
     /// Takes the row with a label out, and gives its operation, where there is one.
@@ -84,7 +86,7 @@ impl KeyIndex {
         ensures listed { AreKeyRows self.old }
     {
         let op = op_of(&self.by_key, label)?;
-        take_out(&mut self.by_key, label, op);
+        remove_key_row(&mut self.by_key, label, op);
         Some(op)
     }
 
@@ -93,7 +95,7 @@ impl KeyIndex {
         requires there { op_at label self.old ≡ Some op }
         ensures { self.new ≡ without label self.old }
     {
-        take_out(&mut self.by_key, label, op);
+        remove_key_row(&mut self.by_key, label, op);
     }
 
     /// The last row on a key below a label.

@@ -124,7 +124,11 @@ pub(crate) fn op_of(by_key: &Tree<KeyRow>, label: u64) -> Option<Op>
 }
 
 /// Puts a row in, and gives the rows beside it on its key.
-pub(crate) fn put_in(by_key: &mut Tree<KeyRow>, label: u64, op: Op) -> Result<RowsBeside, NoMemory>
+pub(crate) fn insert_key_row(
+    by_key: &mut Tree<KeyRow>,
+    label: u64,
+    op: Op,
+) -> Result<RowsBeside, NoMemory>
     requires index { IsIndex by_key.old }
     requires fresh { op_at label (by_label by_key.old) ≡ None }
     requires dict { kind_of op ≡ Dict }
@@ -145,7 +149,7 @@ pub(crate) fn put_in(by_key: &mut Tree<KeyRow>, label: u64, op: Op) -> Result<Ro
 }
 
 /// Takes the row with a label and this operation out.
-pub(crate) fn take_out(by_key: &mut Tree<KeyRow>, label: u64, op: Op)
+pub(crate) fn remove_key_row(by_key: &mut Tree<KeyRow>, label: u64, op: Op)
     requires index { IsIndex by_key.old }
     requires there { op_at label (by_label by_key.old) ≡ Some op }
     ensures index { IsIndex by_key.new }

@@ -19,8 +19,8 @@ pub returns-in_err-op-clause-rows : goal.returns-in_err-op-clause-rows
 returns-in_err-op-clause-rows c =
     none_without c.args.label c.args.self.now (sym (found (goal.at.returns-in_err-op-clause-rows c).After-op_of) ∙ c.in_err-op.was)
 
-pub take_out-requires-clause-there : goal.take_out-requires-clause-there
-take_out-requires-clause-there c = sym (held (goal.at.take_out-requires-clause-there c).After-op_of) ∙ c.in_ok-op.was
+pub remove_key_row-requires-clause-there : goal.remove_key_row-requires-clause-there
+remove_key_row-requires-clause-there c = sym (held (goal.at.remove_key_row-requires-clause-there c).After-op_of) ∙ c.in_ok-op.was
 
 pub returns-clause-found : goal.returns-clause-found
 returns-clause-found c = sym c.in_ok-op.was ∙ found (goal.at.returns-clause-found c).After-op_of

@@ -4,8 +4,8 @@ use Rattle.key_index.specs.KeyRows.{key_of, without}
 use Rattle.key_index.specs.Ordered.{IsIndexed, by_label}
 use Rattle.key_index.proofs.ByLabel.{by_label_is, index_of}
 use Rattle.key_index.proofs.TakenOut.{count_is, taken_indexed}
-use Rattle.key_index.proofs.tree.take_out.Goals as goal
-use Rattle.key_index.proofs.tree.take_out.Goals.{After-count_up_to-count, After-remove}
+use Rattle.key_index.proofs.tree.remove_key_row.Goals as goal
+use Rattle.key_index.proofs.tree.remove_key_row.Goals.{After-count_up_to-count, After-remove}
 
 -- the key as it is handed on
 key-is : (c : After-count_up_to-count) → to_z w64 (of_z w64 c.key_of.result) ≡ key_of c.args.op

@@ -5,8 +5,8 @@ use Rattle.key_index.specs.Ordered.{IsIndexed, by_label}
 use Rattle.key_index.proofs.ByLabel.{by_label_is, index_of}
 use Rattle.key_index.proofs.Neighbours.{last_is, next_is, same_around, around_fresh, beside_is}
 use Rattle.key_index.proofs.PutIn.{none_has, put_indexed}
-use Rattle.key_index.proofs.tree.put_in.Goals as goal
-use Rattle.key_index.proofs.tree.put_in.Goals.{In_ok-insert}
+use Rattle.key_index.proofs.tree.insert_key_row.Goals as goal
+use Rattle.key_index.proofs.tree.insert_key_row.Goals.{In_ok-insert}
 
 -- the rows with one more, and the same in the order of their keys
 indexed : (c : In_ok-insert) → IsIndexed (with_row c.args.label c.args.op (by_label c.args.by_key.now)) c.insert.new.tree
