@@ -46,11 +46,11 @@ pub(crate) fn make<P: Part>(
     let alive = is_gain(evidence.change);
     let changed = changed_place(rows, evidence);
     if evidence.added {
-        put_in(rows, numbers, evidence, alloc)?;
+        insert_row_and_number(rows, numbers, evidence, alloc)?;
         mark_moved(rows, evidence.place, changed, alive);
     } else {
         mark_at(rows, changed, alive);
-        take_out(rows, numbers, evidence);
+        remove_row_and_number(rows, numbers, evidence);
     }
     Ok(())
 }
@@ -125,8 +125,8 @@ fn mark_moved<P: Part>(rows: &mut Pack<P>, added: u32, changed: Option<u32>, ali
     }
 }
 
-/// Puts the row in, unmarked.
-fn put_in<P: Part>(
+/// Puts the row in, unmarked, and its number.
+fn insert_row_and_number<P: Part>(
     rows: &mut Pack<P>,
     numbers: &mut Numbers,
     evidence: &Evidence,
@@ -147,15 +147,15 @@ fn put_in<P: Part>(
         op: evidence.op,
         alive: false,
     };
-    if let Err(cause) = rows.put_in(evidence.place, row, alloc) {
+    if let Err(cause) = rows.insert_row(evidence.place, row, alloc) {
         let _ = numbers.remove(&evidence.number);
         return Err(cause);
     }
     Ok(())
 }
 
-/// Takes the row out.
-fn take_out<P: Part>(rows: &mut Pack<P>, numbers: &mut Numbers, evidence: &Evidence)
+/// Takes the row out, and its number.
+fn remove_row_and_number<P: Part>(rows: &mut Pack<P>, numbers: &mut Numbers, evidence: &Evidence)
     requires few { length rows.old ≤ most_rows }
     requires within { evidence.now.place < length rows.old }
     requires own { has_wrong_number false evidence.now.number evidence.now.place (rows_of rows.old) ≡ false }
@@ -164,6 +164,6 @@ fn take_out<P: Part>(rows: &mut Pack<P>, numbers: &mut Numbers, evidence: &Evide
     ensures numbers { AreNumbers (rows_of rows.new) numbers.new }
     ensures rows { rows.new ≡ remove rows.old evidence.now.place }
 {
-    rows.take_out(evidence.place);
+    rows.remove_row(evidence.place);
     let _ = numbers.remove(&evidence.number);
 }

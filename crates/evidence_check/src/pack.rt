@@ -66,7 +66,7 @@ impl<P: Part> Pack<P> {
     }
 
     /// Puts a row in, whatever the number of parts. Without memory all is as before.
-    pub(crate) fn put_in(
+    pub(crate) fn insert_row(
         &mut self,
         place: u32,
         row: WeighedRow,
@@ -84,7 +84,7 @@ impl<P: Part> Pack<P> {
     }
 
     /// Takes the row at a place out.
-    pub(crate) fn take_out(&mut self, place: u32)
+    pub(crate) fn remove_row(&mut self, place: u32)
         requires few { length self.old ≤ most_rows }
         requires within { place < length self.old }
         ensures { self.new ≡ remove self.old place }
@@ -176,6 +176,6 @@ impl<P: Part> Part for Pack<P> {
     }
 
     fn remove(&mut self, place: u32) {
-        self.take_out(place);
+        self.remove_row(place);
     }
 }

@@ -1,7 +1,7 @@
 use Rattle.evidence_check.specs.Marks.{weighed_row, unweighed, rows_of}
 use Rattle.evidence_check.proofs.Made.{numbers_with}
 use Rattle.evidence_check.proofs.Marking.{insert-map}
-use Rattle.evidence_check.proofs.edits.put_in.Goals as goal
+use Rattle.evidence_check.proofs.edits.insert_row_and_number.Goals as goal
 
 pub returns-clause-numbers : goal.returns-clause-numbers
 returns-clause-numbers g c =
