@@ -66,16 +66,16 @@ fn change_entries(entries: &mut Vec<Entry>, change: Change) -> Result<(), NoMemo
 {
     match change {
         Change::Plain => Ok(()),
-        Change::Gain { entry, .. } => put_in(entries, entry),
+        Change::Gain { entry, .. } => put_entry(entries, entry),
         Change::Lose { entry, .. } => {
-            take_out(entries, entry);
+            take_entry(entries, entry);
             Ok(())
         }
     }
 }
 
 /// Puts an entry in, in its order. After `NoMemory` the entries are as before.
-fn put_in(entries: &mut Vec<Entry>, entry: Entry) -> Result<(), NoMemory>
+fn put_entry(entries: &mut Vec<Entry>, entry: Entry) -> Result<(), NoMemory>
     ensures ok { OnOk result (entries.new.items ≡ with_entry entry entries.old.items) }
     ensures err { OnErr result (entries.new.items ≡ entries.old.items) }
 {
@@ -96,7 +96,7 @@ fn place_for(entries: &[Entry], entry: Entry) -> usize
 }
 
 /// Takes an entry out, where it is there.
-fn take_out(entries: &mut Vec<Entry>, entry: Entry)
+fn take_entry(entries: &mut Vec<Entry>, entry: Entry)
     ensures { entries.new.items ≡ without_entry entry entries.old.items }
 {
     if let Some(place) = place_of(entries, entry) {

@@ -2,7 +2,7 @@ use Rattle.std.proofs.Common.{◌≡◌, ◌∙◌, rules, to_z-of_z}
 use Rattle.std.specs.List.{position_or_len}
 use Rattle.retro_base.specs.State.{comes_before}
 use Rattle.followers.proofs.Placed.{put_at}
-use Rattle.followers.proofs.mirror.put_in.Goals as goal
+use Rattle.followers.proofs.mirror.put_entry.Goals as goal
 
 pub returns-clause-ok : goal.returns-clause-ok
 returns-clause-ok c =

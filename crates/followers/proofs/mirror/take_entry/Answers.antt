@@ -1,7 +1,7 @@
 use Rattle.std.proofs.Common.{◌≡◌, ap, sym, ◌∙◌, position, rules, to_z-of_z}
 use Rattle.retro_base.specs.Bridges.{same_entry}
 use Rattle.followers.proofs.Placed.{left_at, take_at}
-use Rattle.followers.proofs.mirror.take_out.Goals as goal
+use Rattle.followers.proofs.mirror.take_entry.Goals as goal
 
 pub returns-in-Some : goal.returns-in-Some
 returns-in-Some c =
