@@ -9,9 +9,9 @@ use Rattle.lifetime_segments.specs.declared.trie.Trie.{Trie, Few}
 use Rattle.lifetime_segments.specs.declared.trie.Node.{Node}
 use Rattle.lifetime_segments.specs.Lawful.{most_items}
 use Rattle.lifetime_segments.specs.Lifetimes.{items_at}
-use Rattle.lifetime_segments.specs.Ordered.{IsOrder, put_in, in_order}
+use Rattle.lifetime_segments.specs.Ordered.{IsOrder, insert_by, in_order}
 use Rattle.lifetime_segments.specs.OrderedLaws.{length-in_order}
-use Rattle.lifetime_segments.specs.Tries.{Collects, IsOf, IsOfNode, first_part, items_below, second_part, taken}
+use Rattle.lifetime_segments.specs.Tries.{Collects, IsOf, IsOfNode, in_first, items_below, in_second, taken}
 use Rattle.lifetime_segments.proofs.FewLives.{few_of}
 use Rattle.lifetime_segments.proofs.Moved.{few_items}
 use Rattle.lifetime_segments.proofs.Nodes.{absorbs_after, items_at-few, node_at, node_at_zero}
@@ -29,7 +29,7 @@ module _ {A : Type 0} {before : A → A → Bool} (order : IsOrder before) where
   -- lists that are one in their order are so after the same elements
   one_after : (zs xs ys : List A) → in_order before xs ≡ in_order before ys → in_order before (zs ++ xs) ≡ in_order before (zs ++ ys)
   one_after [] xs ys one = one
-  one_after (z ∷ zs) xs ys one = ap (put_in before z) (one_after zs xs ys one)
+  one_after (z ∷ zs) xs ys one = ap (insert_by before z) (one_after zs xs ys one)
 
   module _ {M : Type 0} where
     -- those of few lifetimes
@@ -54,10 +54,10 @@ module _ {A : Type 0} {before : A → A → Bool} (order : IsOrder before) where
           ∙ one_after old (node.items ++ items) (items_at label lives) (sym (absorbs_after order node.items items) ∙ node_at order level label lives node within is_of)
 
       pub collects_first : label < 2 ^ (level - 1) → Collects before (items_at label) (IsOf before (level - 1) node.left) old new → Collects before (items_below level label) (IsOfNode before level node) old new
-      collects_first within left lives is_of = left (taken (first_part level) lives) is_of.left ∙ ap (λ xs. in_order before (old ++ xs)) (items_below-first level label lives within)
+      collects_first within left lives is_of = left (taken (in_first level) lives) is_of.left ∙ ap (λ xs. in_order before (old ++ xs)) (items_below-first level label lives within)
 
       pub collects_second : 2 ^ (level - 1) ≤ label → Collects before (items_at (label - 2 ^ (level - 1))) (IsOf before (level - 1) node.right) old new → Collects before (items_below level label) (IsOfNode before level node) old new
-      collects_second from right lives is_of = right (taken (second_part level) lives) is_of.right ∙ ap (λ xs. in_order before (old ++ xs)) (items_below-second level label lives from)
+      collects_second from right lives is_of = right (taken (in_second level) lives) is_of.right ∙ ap (λ xs. in_order before (old ++ xs)) (items_below-second level label lives from)
 
 -- no more are collected than there are lifetimes
 pub collected-few : {A : Type 0} (before : A → A → Bool) (label : ℕ) (lives : List (Lifetime A)) (items : List A) → length lives ≤ most_items → in_order before items ≡ in_order before (items_at label lives)

@@ -5,8 +5,8 @@ use Rattle.std.specs.List.{filter, AllByRecursion}
 use Rattle.std.proofs.lemmas.List.{append-nil}
 use Rattle.lifetime_segments.specs.declared.lifetime.Lifetime.{Lifetime}
 use Rattle.lifetime_segments.specs.declared.trie.Trie.{Trie, Few}
-use Rattle.lifetime_segments.specs.Ordered.{IsOrder, AreInOrder, put_in, in_order, is_in, without}
-use Rattle.lifetime_segments.specs.OrderedLaws.{all-in_order, in_order-ordered, is_in-put_in, length-in_order, put_in-swap, without-put_in}
+use Rattle.lifetime_segments.specs.Ordered.{IsOrder, AreInOrder, insert_by, in_order, is_in, without}
+use Rattle.lifetime_segments.specs.OrderedLaws.{all-in_order, in_order-ordered, is_in-insert_by, length-in_order, insert_by-swap, without-insert_by}
 use Rattle.lifetime_segments.specs.Lifetimes.{holds, items_at, stands_by_item}
 use Rattle.lifetime_segments.specs.LifetimeLaws.{by_item_order}
 use Rattle.lifetime_segments.specs.Tries.{IsOf, Lies}
@@ -27,20 +27,20 @@ module _ {A : Type 0} {before : A → A → Bool} (order : IsOrder before) where
   few_ordered lives few is = subst (AreInOrder (stands_by_item before)) (sym is) (in_order-ordered (by_item_order order) lives)
 
   pub few_there : (life : Lifetime A) (lives few : List (Lifetime A)) → few ≡ in_order (stands_by_item before) (life ∷ lives) → is_in (stands_by_item before) life few ≡ true
-  few_there life lives few is = ap (is_in (stands_by_item before) life) is ∙ is_in-put_in (by_item_order order) life (in_order (stands_by_item before) lives)
+  few_there life lives few is = ap (is_in (stands_by_item before) life) is ∙ is_in-insert_by (by_item_order order) life (in_order (stands_by_item before) lives)
 
   pub few_without : (life : Lifetime A) (lives few : List (Lifetime A)) → few ≡ in_order (stands_by_item before) (life ∷ lives)
       → without (stands_by_item before) life few ≡ in_order (stands_by_item before) lives
-  few_without life lives few is = ap (without (stands_by_item before) life) is ∙ without-put_in (by_item_order order) life (in_order (stands_by_item before) lives)
+  few_without life lives few is = ap (without (stands_by_item before) life) is ∙ without-insert_by (by_item_order order) life (in_order (stands_by_item before) lives)
 
   pub few_moved : (life other : Lifetime A) (lives few : List (Lifetime A)) → few ≡ in_order (stands_by_item before) (life ∷ lives)
-      → without (stands_by_item before) life (put_in (stands_by_item before) other few) ≡ in_order (stands_by_item before) (other ∷ lives)
+      → without (stands_by_item before) life (insert_by (stands_by_item before) other few) ≡ in_order (stands_by_item before) (other ∷ lives)
   few_moved life other lives few is =
       let by_item = stands_by_item before in
       let rest = in_order by_item lives in
-      ap (λ ls. without by_item life (put_in by_item other ls)) is
-      ∙ ap (without by_item life) (put_in-swap (by_item_order order) other life rest)
-      ∙ without-put_in (by_item_order order) life (put_in by_item other rest)
+      ap (λ ls. without by_item life (insert_by by_item other ls)) is
+      ∙ ap (without by_item life) (insert_by-swap (by_item_order order) other life rest)
+      ∙ without-insert_by (by_item_order order) life (insert_by by_item other rest)
 
 -- the elements from one on
 pub drop_get : {X : Type 0} (xs : List X) (place : ℕ) (x : X) → slice_get xs place ≡ Some x → drop place xs ≡ x ∷ drop (suc place) xs

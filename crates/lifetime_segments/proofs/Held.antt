@@ -5,12 +5,12 @@ use Rattle.retro_base.specs.OrderLaws.{all_weaker}
 use Rattle.lifetime_segments.specs.declared.lifetime.Lifetime.{Lifetime}
 use Rattle.lifetime_segments.specs.declared.trie.Trie.{Trie, Few, Full'}
 use Rattle.lifetime_segments.specs.Lawful.{most_items}
-use Rattle.lifetime_segments.specs.Ordered.{IsOrder, AreInOrder, put_in, is_in, without, place_in}
-use Rattle.lifetime_segments.specs.OrderedLaws.{length-put_in, length-without, put_in-ordered, without-ordered, is_in-all, put_in-without, put_in-swap, is_in-put_in, without-put_in}
+use Rattle.lifetime_segments.specs.Ordered.{IsOrder, AreInOrder, insert_by, is_in, without, place_in}
+use Rattle.lifetime_segments.specs.OrderedLaws.{length-insert_by, length-without, insert_by-ordered, without-ordered, is_in-all, insert_by-without, insert_by-swap, is_in-insert_by, without-insert_by}
 use Rattle.lifetime_segments.specs.Lifetimes.{IsInRange, stands_earlier}
 use Rattle.lifetime_segments.specs.LifetimeLaws.{earlier_order}
 use Rattle.lifetime_segments.specs.Tries.{AreHeld, Changes, Has, IsOf, Lies}
-use Rattle.lifetime_segments.proofs.Moved.{of_put_in, of_without}
+use Rattle.lifetime_segments.proofs.Moved.{of_insert_by, of_without}
 use Rattle.lifetime_segments.proofs.Nodes.{of_none}
 use Rattle.lifetime_segments.proofs.Places.{replaced}
 
@@ -33,38 +33,38 @@ held_has before held root are = record { holds = record { others = held; is_of =
 
 -- an element that is there, and another that is put in
 module _ {A : Type 0} {before : A → A → Bool} (order : IsOrder before) (x y : A) (xs : List A) (ordered : AreInOrder before xs) (there : is_in before x xs ≡ true) where
-  put_in-beside : put_in before y xs ≡ put_in before x (put_in before y (without before x xs))
-  put_in-beside = ap (put_in before y) (sym (put_in-without order x xs ordered there)) ∙ put_in-swap order y x (without before x xs)
+  insert_by-beside : insert_by before y xs ≡ insert_by before x (insert_by before y (without before x xs))
+  insert_by-beside = ap (insert_by before y) (sym (insert_by-without order x xs ordered there)) ∙ insert_by-swap order y x (without before x xs)
 
-  pub still_in : is_in before x (put_in before y xs) ≡ true
-  still_in = ap (is_in before x) put_in-beside ∙ is_in-put_in order x (put_in before y (without before x xs))
+  pub still_in : is_in before x (insert_by before y xs) ≡ true
+  still_in = ap (is_in before x) insert_by-beside ∙ is_in-insert_by order x (insert_by before y (without before x xs))
 
-  without-beside : without before x (put_in before y xs) ≡ put_in before y (without before x xs)
-  without-beside = ap (without before x) put_in-beside ∙ without-put_in order x (put_in before y (without before x xs))
+  without-beside : without before x (insert_by before y xs) ≡ insert_by before y (without before x xs)
+  without-beside = ap (without before x) insert_by-beside ∙ without-insert_by order x (insert_by before y (without before x xs))
 
 -- an element that is replaced where it stands, by one that would be put in beside it
 pub replaced_at : {A : Type 0} {before : A → A → Bool} (order : IsOrder before) (x y : A) (xs : List A) (place next : ℕ) → AreInOrder before xs → is_in before x xs ≡ true
-    → place ≡ place_in before x xs → next ≡ place_in before y xs → place ≤ next → next ≤ suc place → slice_set xs place y ≡ without before x (put_in before y xs)
+    → place ≡ place_in before x xs → next ≡ place_in before y xs → place ≤ next → next ≤ suc place → slice_set xs place y ≡ without before x (insert_by before y xs)
 replaced_at {before = before} order x y xs place next ordered there here beside low high =
     ap (λ n. slice_set xs n y) here
     ∙ replaced order x y xs ordered there (omega (arith, here, beside)) (omega (arith, here, beside))
     ∙ sym (without-beside order x y xs ordered there)
 
 -- a lifetime that was put in is taken back
-pub taken_back : {A : Type 0} {before : A → A → Bool} (order : IsOrder before) (life : Lifetime A) (held more after : List (Lifetime A)) → more ≡ put_in (stands_earlier before) life held
+pub taken_back : {A : Type 0} {before : A → A → Bool} (order : IsOrder before) (life : Lifetime A) (held more after : List (Lifetime A)) → more ≡ insert_by (stands_earlier before) life held
     → after ≡ without (stands_earlier before) life more → after ≡ held
-taken_back {before = before} order life held more after is_more is_after = is_after ∙ ap (without (stands_earlier before) life) is_more ∙ without-put_in (earlier_order order) life held
+taken_back {before = before} order life held more after is_more is_after = is_after ∙ ap (without (stands_earlier before) life) is_more ∙ without-insert_by (earlier_order order) life held
 
 module _ {A : Type 0} {before : A → A → Bool} (order : IsOrder before) {M : Type 0} where
   pub held_with : (life : Lifetime A) (held : List (Lifetime A)) (root after : Trie A M) → length held < most_items → AreHeld before held root → Changes None (Some life) (IsOf before 40 root) (IsOf before 40 after)
-      → AreHeld before (put_in (stands_earlier before) life held) after
+      → AreHeld before (insert_by (stands_earlier before) life held) after
   held_with life held root after room are adds = record {
-    ordered = put_in-ordered (earlier_order order) life held are.ordered;
-    few = omega (arith, length-put_in (stands_earlier before) life held);
-    is_of = of_put_in order 40 life held after (adds held are.is_of);
+    ordered = insert_by-ordered (earlier_order order) life held are.ordered;
+    few = omega (arith, length-insert_by (stands_earlier before) life held);
+    is_of = of_insert_by order 40 life held after (adds held are.is_of);
   }
 
-  pub held_back : (life : Lifetime A) (held more after : List (Lifetime A)) (root trie : Trie A M) → more ≡ put_in (stands_earlier before) life held → after ≡ without (stands_earlier before) life more
+  pub held_back : (life : Lifetime A) (held more after : List (Lifetime A)) (root trie : Trie A M) → more ≡ insert_by (stands_earlier before) life held → after ≡ without (stands_earlier before) life more
       → AreHeld before held root → Changes None None (IsOf before 40 root) (IsOf before 40 trie) → AreHeld before after trie
   held_back life held more after root trie is_more is_after are keeps = subst (λ held. AreHeld before held trie) (sym (taken_back order life held more after is_more is_after)) (held_kept before held root trie are keeps)
 
@@ -73,7 +73,7 @@ module _ {A : Type 0} {before : A → A → Bool} (order : IsOrder before) {M : 
       let rest = without (stands_earlier before) life held in
       record {
         holds = record { others = rest; is_of = of_without order 40 life held root are.ordered there are.is_of };
-        few = let all = are.few in omega (arith, length-put_in (stands_earlier before) life rest, ap length (put_in-without (earlier_order order) life held are.ordered there));
+        few = let all = are.few in omega (arith, length-insert_by (stands_earlier before) life rest, ap length (insert_by-without (earlier_order order) life held are.ordered there));
       }
 
   pub held_without : (life : Lifetime A) (held : List (Lifetime A)) (root after : Trie A M) → AreHeld before held root → is_in (stands_earlier before) life held ≡ true
@@ -85,16 +85,16 @@ module _ {A : Type 0} {before : A → A → Bool} (order : IsOrder before) {M : 
   }
 
   pub held_moved : (life other : Lifetime A) (held : List (Lifetime A)) (root after : Trie A M) → length held < most_items → is_in (stands_earlier before) life held ≡ true → AreHeld before held root
-      → Changes (Some life) (Some other) (IsOf before 40 root) (IsOf before 40 after) → AreHeld before (without (stands_earlier before) life (put_in (stands_earlier before) other held)) after
+      → Changes (Some life) (Some other) (IsOf before 40 root) (IsOf before 40 after) → AreHeld before (without (stands_earlier before) life (insert_by (stands_earlier before) other held)) after
   held_moved life other held root after room there are moves =
       let earlier = stands_earlier before in
       let others = without earlier life held in
-      let all = put_in earlier other held in
+      let all = insert_by earlier other held in
       record {
-        ordered = without-ordered (earlier_order order) life all (put_in-ordered (earlier_order order) other held are.ordered);
-        few = omega (arith, length-without earlier life all, length-put_in earlier other held);
+        ordered = without-ordered (earlier_order order) life all (insert_by-ordered (earlier_order order) other held are.ordered);
+        few = omega (arith, length-without earlier life all, length-insert_by earlier other held);
         is_of = subst (IsOf before 40 after) (sym (without-beside (earlier_order order) life other held are.ordered there))
-            (of_put_in order 40 other others after (moves others (of_without order 40 life held root are.ordered there are.is_of)));
+            (of_insert_by order 40 other others after (moves others (of_without order 40 life held root are.ordered there are.is_of)));
       }
 
   pub held_lies : (life : Lifetime A) (held : List (Lifetime A)) (root : Trie A M) → AreHeld before held root → is_in (stands_earlier before) life held ≡ true → Lies 40 life

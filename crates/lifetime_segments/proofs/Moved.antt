@@ -4,18 +4,18 @@ use Rattle.std.specs.List.{AllByRecursion}
 use Rattle.lifetime_segments.specs.declared.lifetime.Lifetime.{Lifetime}
 use Rattle.lifetime_segments.specs.declared.trie.Trie.{Trie, Few, Full'}
 use Rattle.lifetime_segments.specs.declared.trie.Node.{Node}
-use Rattle.lifetime_segments.specs.Ordered.{IsOrder, AreInOrder, put_in, in_order, is_in, without}
-use Rattle.lifetime_segments.specs.OrderedLaws.{all-in_order, length-in_order, in_order-kept, in_order-put_in, put_in-swap, put_in-without, without-ordered}
+use Rattle.lifetime_segments.specs.Ordered.{IsOrder, AreInOrder, insert_by, in_order, is_in, without}
+use Rattle.lifetime_segments.specs.OrderedLaws.{all-in_order, length-in_order, in_order-kept, in_order-insert_by, insert_by-swap, insert_by-without, without-ordered}
 use Rattle.lifetime_segments.specs.Lifetimes.{stands_by_item, stands_earlier, items_at}
 use Rattle.lifetime_segments.specs.LifetimeLaws.{by_item_order, earlier_order}
-use Rattle.lifetime_segments.specs.Tries.{IsOf, IsOfNode, Lies, first_part, second_part, taken, whole_item}
+use Rattle.lifetime_segments.specs.Tries.{IsOf, IsOfNode, Lies, in_first, in_second, taken, whole_item}
 use Rattle.lifetime_segments.proofs.Spans.{item_there, items-taken}
 use Rattle.lifetime_segments.proofs.Taken.{taken-alike, taken-in_order, taken-some}
 
 -- what holds of all elements that are put in order holds of all
-all-put_back : {X : Type 0} (P : X → Type 0) (earlier : X → X → Bool) (x : X) (xs : List X) → AllByRecursion P (put_in earlier x xs) → P x × AllByRecursion P xs
+all-put_back : {X : Type 0} (P : X → Type 0) (earlier : X → X → Bool) (x : X) (xs : List X) → AllByRecursion P (insert_by earlier x xs) → P x × AllByRecursion P xs
 all-put_back P earlier x [] all = (all.0, tt)
-all-put_back P earlier x (y ∷ ys) all = elim (earlier y x) as (λ b. AllByRecursion P (cond b (y ∷ put_in earlier x ys) (x ∷ y ∷ ys)) → P x × AllByRecursion P (y ∷ ys)) [
+all-put_back P earlier x (y ∷ ys) all = elim (earlier y x) as (λ b. AllByRecursion P (cond b (y ∷ insert_by earlier x ys) (x ∷ y ∷ ys)) → P x × AllByRecursion P (y ∷ ys)) [
   | true ↦ λ all. let both = all-put_back P earlier x ys all.1 in (both.0, (all.0, both.1))
   | false ↦ λ all. (all.0, all.1)
 ] all
@@ -46,21 +46,21 @@ module _ {A : Type 0} {before : A → A → Bool} (order : IsOrder before) where
       omega (arith, is_of.0, ap length same, length-in_order (stands_earlier before) lives, length-in_order (stands_earlier before) others),
       all_same level lives others same is_of.1,
       is_of.2 ∙ taken-alike (stands_earlier before) order (whole_item level) lives others same,
-      of_same (level - 1) (taken (first_part level) lives) (taken (first_part level) others) left (taken-alike (stands_earlier before) (earlier_order order) (first_part level) lives others same) is_of.3,
-      of_same (level - 1) (taken (second_part level) lives) (taken (second_part level) others) right (taken-alike (stands_earlier before) (earlier_order order) (second_part level) lives others same) is_of.4,
+      of_same (level - 1) (taken (in_first level) lives) (taken (in_first level) others) left (taken-alike (stands_earlier before) (earlier_order order) (in_first level) lives others same) is_of.3,
+      of_same (level - 1) (taken (in_second level) lives) (taken (in_second level) others) right (taken-alike (stands_earlier before) (earlier_order order) (in_second level) lives others same) is_of.4,
     )
 
     node_of_same : (level : ℕ) (lives others : List (Lifetime A)) (node : Node A M) → AreSame lives others → IsOfNode before level node lives → IsOfNode before level node others
     node_of_same level lives others node same is_of = record {
       lie = all_same level lives others same is_of.lie;
       items = is_of.items ∙ taken-alike (stands_earlier before) order (whole_item level) lives others same;
-      left = of_same (level - 1) _ _ node.left (taken-alike (stands_earlier before) (earlier_order order) (first_part level) lives others same) is_of.left;
-      right = of_same (level - 1) _ _ node.right (taken-alike (stands_earlier before) (earlier_order order) (second_part level) lives others same) is_of.right;
+      left = of_same (level - 1) _ _ node.left (taken-alike (stands_earlier before) (earlier_order order) (in_first level) lives others same) is_of.left;
+      right = of_same (level - 1) _ _ node.right (taken-alike (stands_earlier before) (earlier_order order) (in_second level) lives others same) is_of.right;
     }
 
     -- the first two lifetimes of a node
     pub node_swapped : (level : ℕ) (x y : Lifetime A) (lives : List (Lifetime A)) (node : Node A M) → IsOfNode before level node (x ∷ y ∷ lives) → IsOfNode before level node (y ∷ x ∷ lives)
-    node_swapped level x y lives node is_of = node_of_same level (x ∷ y ∷ lives) (y ∷ x ∷ lives) node (put_in-swap (earlier_order order) x y (in_order (stands_earlier before) lives)) is_of
+    node_swapped level x y lives node is_of = node_of_same level (x ∷ y ∷ lives) (y ∷ x ∷ lives) node (insert_by-swap (earlier_order order) x y (in_order (stands_earlier before) lives)) is_of
 
     -- lifetimes that were kept by their items, with one more
     pub node_of_few : (level : ℕ) (life : Lifetime A) (lives few : List (Lifetime A)) (node : Node A M) → few ≡ in_order (stands_by_item before) lives → IsOfNode before level node (life ∷ few)
@@ -69,15 +69,15 @@ module _ {A : Type 0} {before : A → A → Bool} (order : IsOrder before) where
         let earlier = stands_earlier before in
         let all : List (Lifetime A) = in_order (stands_by_item before) lives in
         node_of_same level (life ∷ few) (life ∷ lives) node
-        (ap (put_in earlier life) (ap (in_order earlier) (is ∙ sym (taken-some all)) ∙ taken-in_order (stands_by_item before) (earlier_order order) (λ life. Some life) lives ∙ ap (in_order earlier) (taken-some lives)))
+        (ap (insert_by earlier life) (ap (in_order earlier) (is ∙ sym (taken-some all)) ∙ taken-in_order (stands_by_item before) (earlier_order order) (λ life. Some life) lives ∙ ap (in_order earlier) (taken-some lives)))
         is_of
 
     -- a lifetime at the front, and at its place
-    pub of_put_in : (level : ℕ) (life : Lifetime A) (lives : List (Lifetime A)) (trie : Trie A M) → IsOf before level trie (life ∷ lives) → IsOf before level trie (put_in (stands_earlier before) life lives)
-    of_put_in level life lives trie is_of =
+    pub of_insert_by : (level : ℕ) (life : Lifetime A) (lives : List (Lifetime A)) (trie : Trie A M) → IsOf before level trie (life ∷ lives) → IsOf before level trie (insert_by (stands_earlier before) life lives)
+    of_insert_by level life lives trie is_of =
         let earlier = stands_earlier before in
-        of_same level (life ∷ lives) (put_in earlier life lives) trie
-        (sym (ap (in_order earlier) (sym (append-nil (put_in earlier life lives))) ∙ in_order-put_in (earlier_order order) life lives [] ∙ ap (λ ls. put_in earlier life (in_order earlier ls)) (append-nil lives))) is_of
+        of_same level (life ∷ lives) (insert_by earlier life lives) trie
+        (sym (ap (in_order earlier) (sym (append-nil (insert_by earlier life lives))) ∙ in_order-insert_by (earlier_order order) life lives [] ∙ ap (λ ls. insert_by earlier life (in_order earlier ls)) (append-nil lives))) is_of
 
     pub of_without : (level : ℕ) (life : Lifetime A) (lives : List (Lifetime A)) (trie : Trie A M) → AreInOrder (stands_earlier before) lives → is_in (stands_earlier before) life lives ≡ true
         → IsOf before level trie lives → IsOf before level trie (life ∷ without (stands_earlier before) life lives)
@@ -86,8 +86,8 @@ module _ {A : Type 0} {before : A → A → Bool} (order : IsOrder before) where
         let rest = without earlier life lives in
         of_same level lives (life ∷ rest) trie
         (in_order-kept (earlier_order order) lives ordered
-        ∙ sym (put_in-without (earlier_order order) life lives ordered there)
-        ∙ sym (ap (put_in earlier life) (in_order-kept (earlier_order order) rest (without-ordered (earlier_order order) life lives ordered))))
+        ∙ sym (insert_by-without (earlier_order order) life lives ordered there)
+        ∙ sym (ap (insert_by earlier life) (in_order-kept (earlier_order order) rest (without-ordered (earlier_order order) life lives ordered))))
         is_of
 
   pub few_items : (label : ℕ) (lives few : List (Lifetime A)) → few ≡ in_order (stands_by_item before) lives → in_order before (items_at label few) ≡ in_order before (items_at label lives)

@@ -6,10 +6,10 @@ use Rattle.lifetime_segments.specs.declared.lifetime.Lifetime.{Lifetime}
 use Rattle.lifetime_segments.specs.declared.trie.Trie.{Trie, Few, Full'}
 use Rattle.lifetime_segments.specs.declared.trie.Node.{Node}
 use Rattle.lifetime_segments.specs.Lawful.{most_items, AreLawful}
-use Rattle.lifetime_segments.specs.Ordered.{IsOrder, AreInOrder, put_in, in_order, is_in, without}
-use Rattle.lifetime_segments.specs.OrderedLaws.{in_order-absorbs, in_order-ordered, in_order-kept, length-in_order, is_in-put_in, without-put_in}
+use Rattle.lifetime_segments.specs.Ordered.{IsOrder, AreInOrder, insert_by, in_order, is_in, without}
+use Rattle.lifetime_segments.specs.OrderedLaws.{in_order-absorbs, in_order-ordered, in_order-kept, length-in_order, is_in-insert_by, without-insert_by}
 use Rattle.lifetime_segments.specs.Lifetimes.{items_at, stands_by_item}
-use Rattle.lifetime_segments.specs.Tries.{Changes, Edits, Has, Holds, IsBare, IsOf, IsOfNode, LeadsTo, Lies, first_part, is_whole, items_below, second_part, taken, whole_item, with}
+use Rattle.lifetime_segments.specs.Tries.{Changes, Edits, Has, Holds, IsBare, IsOf, IsOfNode, LeadsTo, Lies, in_first, is_whole, items_below, in_second, taken, whole_item, with}
 use Rattle.lifetime_segments.proofs.Results.{edits_by}
 use Rattle.lifetime_segments.proofs.Spans.{first-whole, items_below-in_order, items-taken, item_there, none_lie, second-whole, whole-here, zero_items}
 use Rattle.lifetime_segments.proofs.Taken.{after, length-taken}
@@ -35,8 +35,8 @@ module _ {A M : Type 0} (before : A → A → Bool) (level : ℕ) where
     record {
       lie = is_of.1;
       items = leads.0 ∙ is_of.2;
-      left = subst (λ t. IsOf before (level - 1) t (taken (first_part level) lives)) (sym leads.1) is_of.3;
-      right = subst (λ t. IsOf before (level - 1) t (taken (second_part level) lives)) (sym leads.2) is_of.4;
+      left = subst (λ t. IsOf before (level - 1) t (taken (in_first level) lives)) (sym leads.1) is_of.3;
+      right = subst (λ t. IsOf before (level - 1) t (taken (in_second level) lives)) (sym leads.2) is_of.4;
     },
   )
 
@@ -46,8 +46,8 @@ module _ {A M : Type 0} (before : A → A → Bool) (level : ℕ) where
     some,
     is_of.lie,
     sym leads.0 ∙ is_of.items,
-    subst (λ t. IsOf before (level - 1) t (taken (first_part level) lives)) leads.1 is_of.left,
-    subst (λ t. IsOf before (level - 1) t (taken (second_part level) lives)) leads.2 is_of.right,
+    subst (λ t. IsOf before (level - 1) t (taken (in_first level) lives)) leads.1 is_of.left,
+    subst (λ t. IsOf before (level - 1) t (taken (in_second level) lives)) leads.2 is_of.right,
   )
 
   -- what is made of the node that a trie leads to is made of the trie
@@ -56,8 +56,8 @@ module _ {A M : Type 0} (before : A → A → Bool) (level : ℕ) where
       (0 < length lives)
       × AllByRecursion (Lies level) lives
       × (node.items ≡ in_order before (taken (whole_item level) lives))
-      × IsOf before (level - 1) node.left (taken (first_part level) lives)
-      × IsOf before (level - 1) node.right (taken (second_part level) lives)
+      × IsOf before (level - 1) node.left (taken (in_first level) lives)
+      × IsOf before (level - 1) node.right (taken (in_second level) lives)
 
   pub divided_of : (node : Node A M) (lives : List (Lifetime A)) → 0 < length lives → IsOfNode before level node lives → Divided node lives
   divided_of node lives some is_of = (some, is_of.lie, is_of.items, is_of.left, is_of.right)
@@ -104,8 +104,8 @@ module _ {A M : Type 0} (before : A → A → Bool) (level : ℕ) where
   bare_nothing lives node bare is_of trie is =
       let none : lives ≡ [] = none_lie level lives is_of.lie
       (nothing before (taken (whole_item level) lives) (sym bare.no_items ∙ is_of.items))
-      (no_lives before (level - 1) (taken (first_part level) lives) node.left bare.no_left is_of.left)
-      (no_lives before (level - 1) (taken (second_part level) lives) node.right bare.no_right is_of.right) in
+      (no_lives before (level - 1) (taken (in_first level) lives) node.left bare.no_left is_of.left)
+      (no_lives before (level - 1) (taken (in_second level) lives) node.right bare.no_right is_of.right) in
       subst (IsOf before level trie) (sym none) (of_none before level trie is)
 
   -- so a node that has something has lifetimes
@@ -115,34 +115,34 @@ module _ {A M : Type 0} (before : A → A → Bool) (level : ℕ) where
   some_where (life ∷ lives) node some is_of = omega arith
 
   module _ (node : Node A M) (life : Option (Lifetime A)) where
-    pub left_holds : Holds (IsOfNode before level node) life → Holds (IsOf before (level - 1) node.left) (after life (first_part level))
-    left_holds = half_holds (first_part level) (IsOfNode before level node) (IsOf before (level - 1) node.left) (λ lives is_of. is_of.left) life
+    pub left_holds : Holds (IsOfNode before level node) life → Holds (IsOf before (level - 1) node.left) (after life (in_first level))
+    left_holds = half_holds (in_first level) (IsOfNode before level node) (IsOf before (level - 1) node.left) (λ lives is_of. is_of.left) life
 
-    pub right_holds : Holds (IsOfNode before level node) life → Holds (IsOf before (level - 1) node.right) (after life (second_part level))
-    right_holds = half_holds (second_part level) (IsOfNode before level node) (IsOf before (level - 1) node.right) (λ lives is_of. is_of.right) life
+    pub right_holds : Holds (IsOfNode before level node) life → Holds (IsOf before (level - 1) node.right) (after life (in_second level))
+    right_holds = half_holds (in_second level) (IsOfNode before level node) (IsOf before (level - 1) node.right) (λ lives is_of. is_of.right) life
 
-    pub left_has : Has (IsOfNode before level node) life → Has (IsOf before (level - 1) node.left) (after life (first_part level))
-    left_has = half_has (first_part level) (IsOfNode before level node) (IsOf before (level - 1) node.left) (λ lives is_of. is_of.left) life
+    pub left_has : Has (IsOfNode before level node) life → Has (IsOf before (level - 1) node.left) (after life (in_first level))
+    left_has = half_has (in_first level) (IsOfNode before level node) (IsOf before (level - 1) node.left) (λ lives is_of. is_of.left) life
 
-    pub right_has : Has (IsOfNode before level node) life → Has (IsOf before (level - 1) node.right) (after life (second_part level))
-    right_has = half_has (second_part level) (IsOfNode before level node) (IsOf before (level - 1) node.right) (λ lives is_of. is_of.right) life
+    pub right_has : Has (IsOfNode before level node) life → Has (IsOf before (level - 1) node.right) (after life (in_second level))
+    right_has = half_has (in_second level) (IsOfNode before level node) (IsOf before (level - 1) node.right) (λ lives is_of. is_of.right) life
 
   -- what changes in a node changes in the span itself and in its halves
   pub node_changes : (gone come : Option (Lifetime A)) (node new : Node A M) → IfSome come (Lies level)
       → ((items : List A) → node.items ≡ in_order before (with (after gone (whole_item level)) items) → new.items ≡ in_order before (with (after come (whole_item level)) items))
-      → Changes (after gone (first_part level)) (after come (first_part level)) (IsOf before (level - 1) node.left) (IsOf before (level - 1) new.left)
-      → Changes (after gone (second_part level)) (after come (second_part level)) (IsOf before (level - 1) node.right) (IsOf before (level - 1) new.right)
+      → Changes (after gone (in_first level)) (after come (in_first level)) (IsOf before (level - 1) node.left) (IsOf before (level - 1) new.left)
+      → Changes (after gone (in_second level)) (after come (in_second level)) (IsOf before (level - 1) node.right) (IsOf before (level - 1) new.right)
       → Changes gone come (IsOfNode before level node) (IsOfNode before level new)
-  node_changes None None node new lies items left right lives is_of = record { lie = is_of.lie; items = items (taken (whole_item level) lives) is_of.items; left = left (taken (first_part level) lives) is_of.left; right = right (taken (second_part level) lives) is_of.right }
-  node_changes None (Some life) node new lies items left right lives is_of = record { lie = (lies, is_of.lie); items = items (taken (whole_item level) lives) is_of.items; left = left (taken (first_part level) lives) is_of.left; right = right (taken (second_part level) lives) is_of.right }
-  node_changes (Some life) None node new lies items left right lives is_of = record { lie = is_of.lie.1; items = items (taken (whole_item level) lives) is_of.items; left = left (taken (first_part level) lives) is_of.left; right = right (taken (second_part level) lives) is_of.right }
-  node_changes (Some life) (Some other) node new lies items left right lives is_of = record { lie = (lies, is_of.lie.1); items = items (taken (whole_item level) lives) is_of.items; left = left (taken (first_part level) lives) is_of.left; right = right (taken (second_part level) lives) is_of.right }
+  node_changes None None node new lies items left right lives is_of = record { lie = is_of.lie; items = items (taken (whole_item level) lives) is_of.items; left = left (taken (in_first level) lives) is_of.left; right = right (taken (in_second level) lives) is_of.right }
+  node_changes None (Some life) node new lies items left right lives is_of = record { lie = (lies, is_of.lie); items = items (taken (whole_item level) lives) is_of.items; left = left (taken (in_first level) lives) is_of.left; right = right (taken (in_second level) lives) is_of.right }
+  node_changes (Some life) None node new lies items left right lives is_of = record { lie = is_of.lie.1; items = items (taken (whole_item level) lives) is_of.items; left = left (taken (in_first level) lives) is_of.left; right = right (taken (in_second level) lives) is_of.right }
+  node_changes (Some life) (Some other) node new lies items left right lives is_of = record { lie = (lies, is_of.lie.1); items = items (taken (whole_item level) lives) is_of.items; left = left (taken (in_first level) lives) is_of.left; right = right (taken (in_second level) lives) is_of.right }
 
   -- a lifetime of the whole span changes the items alone
-  pub node_with_whole : (life : Lifetime A) (node new : Node A M) → Lies level life → is_whole level life ≡ true → new.items ≡ put_in before life.item node.items → new.left ≡ node.left → new.right ≡ node.right
+  pub node_with_whole : (life : Lifetime A) (node new : Node A M) → Lies level life → is_whole level life ≡ true → new.items ≡ insert_by before life.item node.items → new.left ≡ node.left → new.right ≡ node.right
       → Changes None (Some life) (IsOfNode before level node) (IsOfNode before level new)
   node_with_whole life node new lies whole items left right = node_changes None (Some life) node new lies
-      (λ others is. items ∙ ap (put_in before life.item) is ∙ sym (ap (λ o. in_order before (with o others)) (whole-here level life whole)))
+      (λ others is. items ∙ ap (insert_by before life.item) is ∙ sym (ap (λ o. in_order before (with o others)) (whole-here level life whole)))
       (subst (λ o. Changes None o (IsOf before (level - 1) node.left) (IsOf before (level - 1) new.left)) (sym (first-whole level life whole)) (λ lives is_of. subst (λ t. IsOf before (level - 1) t lives) (sym left) is_of))
       (subst (λ o. Changes None o (IsOf before (level - 1) node.right) (IsOf before (level - 1) new.right)) (sym (second-whole level life whole)) (λ lives is_of. subst (λ t. IsOf before (level - 1) t lives) (sym right) is_of))
 
@@ -151,7 +151,7 @@ module _ {A : Type 0} {before : A → A → Bool} (order : IsOrder before) where
     pub node_without_whole : (life : Lifetime A) (node new : Node A M) → is_whole level life ≡ true → new.items ≡ without before life.item node.items → new.left ≡ node.left → new.right ≡ node.right
         → Changes (Some life) None (IsOfNode before level node) (IsOfNode before level new)
     node_without_whole life node new whole items left right = node_changes before level (Some life) None node new tt
-        (λ others is. items ∙ ap (without before life.item) (is ∙ ap (λ o. in_order before (with o others)) (whole-here level life whole)) ∙ without-put_in order life.item (in_order before others))
+        (λ others is. items ∙ ap (without before life.item) (is ∙ ap (λ o. in_order before (with o others)) (whole-here level life whole)) ∙ without-insert_by order life.item (in_order before others))
         (subst (λ o. Changes o None (IsOf before (level - 1) node.left) (IsOf before (level - 1) new.left)) (sym (first-whole level life whole)) (λ lives is_of. subst (λ t. IsOf before (level - 1) t lives) (sym left) is_of))
         (subst (λ o. Changes o None (IsOf before (level - 1) node.right) (IsOf before (level - 1) new.right)) (sym (second-whole level life whole)) (λ lives is_of. subst (λ t. IsOf before (level - 1) t lives) (sym right) is_of))
 
@@ -165,12 +165,12 @@ module _ {A : Type 0} {before : A → A → Bool} (order : IsOrder before) where
     pub node_is_in : (life : Lifetime A) (lives : List (Lifetime A)) (node : Node A M) → is_whole level life ≡ true → IsOfNode before level node (life ∷ lives) → is_in before life.item node.items ≡ true
     node_is_in life lives node whole is_of =
         ap (is_in before life.item) (is_of.items ∙ ap (λ o. in_order before (with o (taken (whole_item level) lives))) (whole-here level life whole))
-        ∙ is_in-put_in order life.item (in_order before (taken (whole_item level) lives))
+        ∙ is_in-insert_by order life.item (in_order before (taken (whole_item level) lives))
 
   -- elements that were put in order are as they were
   pub absorbs_after : (xs ys : List A) → in_order before (xs ++ in_order before ys) ≡ in_order before (xs ++ ys)
   absorbs_after [] ys = in_order-kept order (in_order before ys) (in_order-ordered order ys)
-  absorbs_after (x ∷ xs) ys = ap (put_in before x) (absorbs_after xs ys)
+  absorbs_after (x ∷ xs) ys = ap (insert_by before x) (absorbs_after xs ys)
 
   module _ {M : Type 0} (level label : ℕ) (lives : List (Lifetime A)) (node : Node A M) (within : label < 2 ^ level) (is_of : IsOfNode before level node lives) where
     pub node_at : in_order before (node.items ++ in_order before (items_below level label lives)) ≡ in_order before (items_at label lives)

@@ -5,13 +5,13 @@ use Rattle.std.specs.List.Sorted.{IsPartitionPoint, IsPartitionedBy}
 use Rattle.std.specs.Prelude.{slice_index_or}
 use Rattle.retro_base.specs.OrderLaws.{all_weaker}
 use Rattle.weighted_tree.specs.Partitioned.{IsPartitioned}
-use Rattle.lifetime_segments.specs.Ordered.{IsOrder, AreInOrder, put_in, is_in, without, place_in, position_in}
-use Rattle.lifetime_segments.specs.OrderedLaws.{between, not_before-chains, put_in-front}
+use Rattle.lifetime_segments.specs.Ordered.{IsOrder, AreInOrder, insert_by, is_in, without, place_in, position_in}
+use Rattle.lifetime_segments.specs.OrderedLaws.{between, not_before-chains, insert_by-front}
 
 -- the place of an element is where it is put in, and where it is taken out
-pub insert-place : {A : Type 0} (before : A → A → Bool) (x : A) (xs : List A) → insert xs (place_in before x xs) x ≡ put_in before x xs
+pub insert-place : {A : Type 0} (before : A → A → Bool) (x : A) (xs : List A) → insert xs (place_in before x xs) x ≡ insert_by before x xs
 insert-place before x [] = refl
-insert-place before x (y ∷ ys) = elim (before y x) as (λ b. insert (y ∷ ys) (cond b (suc (place_in before x ys)) 0) x ≡ cond b (y ∷ put_in before x ys) (x ∷ y ∷ ys)) [
+insert-place before x (y ∷ ys) = elim (before y x) as (λ b. insert (y ∷ ys) (cond b (suc (place_in before x ys)) 0) x ≡ cond b (y ∷ insert_by before x ys) (x ∷ y ∷ ys)) [
   | true ↦ ap (λ zs. y ∷ zs) (insert-place before x ys)
   | false ↦ refl
 ]
@@ -117,9 +117,9 @@ module _ {A : Type 0} {before : A → A → Bool} (order : IsOrder before) where
   place-parted_by x (y ∷ ys) ordered (suc i) (suc j) d up within here = place-parted_by x ys ordered.1 i j d (omega arith) (omega arith) here
 
 -- where an element would be put in at the front
-put-front : {A : Type 0} (before : A → A → Bool) (x : A) (xs : List A) → place_in before x xs ≡ 0 → put_in before x xs ≡ x ∷ xs
+put-front : {A : Type 0} (before : A → A → Bool) (x : A) (xs : List A) → place_in before x xs ≡ 0 → insert_by before x xs ≡ x ∷ xs
 put-front before x [] front = refl
-put-front before x (y ∷ ys) front = elim (before y x) as (λ b. cond b (suc (place_in before x ys)) 0 ≡ 0 → cond b (y ∷ put_in before x ys) (x ∷ y ∷ ys) ≡ x ∷ y ∷ ys) [
+put-front before x (y ∷ ys) front = elim (before y x) as (λ b. cond b (suc (place_in before x ys)) 0 ≡ 0 → cond b (y ∷ insert_by before x ys) (x ∷ y ∷ ys) ≡ x ∷ y ∷ ys) [
   | true ↦ λ front. absurd (omega arith)
   | false ↦ λ _. refl
 ] front
@@ -127,20 +127,20 @@ put-front before x (y ∷ ys) front = elim (before y x) as (λ b. cond b (suc (p
 module _ {A : Type 0} {before : A → A → Bool} (order : IsOrder before) where
   -- an element that would be put in right before another, or right after it, stands in order in its place
   pub replaced : (x y : A) (xs : List A) → AreInOrder before xs → is_in before x xs ≡ true → place_in before x xs ≤ place_in before y xs → place_in before y xs ≤ suc (place_in before x xs)
-      → slice_set xs (place_in before x xs) y ≡ put_in before y (without before x xs)
+      → slice_set xs (place_in before x xs) y ≡ insert_by before y (without before x xs)
   replaced x y [] ordered there low high = absurd (cc)
   replaced x y (z ∷ zs) ordered there low high = elim (before z x) as
       (λ b. cond b (is_in before x zs) (not (before x z)) ≡ true → cond b (suc (place_in before x zs)) 0 ≤ place_in before y (z ∷ zs) → place_in before y (z ∷ zs) ≤ suc (cond b (suc (place_in before x zs)) 0)
-      → slice_set (z ∷ zs) (cond b (suc (place_in before x zs)) 0) y ≡ put_in before y (cond b (z ∷ without before x zs) (cond (before x z) (z ∷ zs) zs))) [
+      → slice_set (z ∷ zs) (cond b (suc (place_in before x zs)) 0) y ≡ insert_by before y (cond b (z ∷ without before x zs) (cond (before x z) (z ∷ zs) zs))) [
         | true ↦ λ there low high. behind (replaced x y zs ordered.1 there) low high
-        | false ↦ λ there _ high. sym (ap (put_in before y) (here there) ∙ at_front high)
+        | false ↦ λ there _ high. sym (ap (insert_by before y) (here there) ∙ at_front high)
       ] there low high where
-        behind : (place_in before x zs ≤ place_in before y zs → place_in before y zs ≤ suc (place_in before x zs) → slice_set zs (place_in before x zs) y ≡ put_in before y (without before x zs))
+        behind : (place_in before x zs ≤ place_in before y zs → place_in before y zs ≤ suc (place_in before x zs) → slice_set zs (place_in before x zs) y ≡ insert_by before y (without before x zs))
             → suc (place_in before x zs) ≤ place_in before y (z ∷ zs) → place_in before y (z ∷ zs) ≤ suc (suc (place_in before x zs))
-            → z ∷ slice_set zs (place_in before x zs) y ≡ put_in before y (z ∷ without before x zs)
+            → z ∷ slice_set zs (place_in before x zs) y ≡ insert_by before y (z ∷ without before x zs)
         behind rest low high = elim (before z y) as
             (λ b. suc (place_in before x zs) ≤ cond b (suc (place_in before y zs)) 0 → cond b (suc (place_in before y zs)) 0 ≤ suc (suc (place_in before x zs))
-            → z ∷ slice_set zs (place_in before x zs) y ≡ cond b (z ∷ put_in before y (without before x zs)) (y ∷ z ∷ without before x zs)) [
+            → z ∷ slice_set zs (place_in before x zs) y ≡ cond b (z ∷ insert_by before y (without before x zs)) (y ∷ z ∷ without before x zs)) [
               | true ↦ λ low high. ap (λ ws. z ∷ ws) (rest (omega arith) (omega arith))
               | false ↦ λ low _. absurd (omega arith)
             ] low high
@@ -151,8 +151,8 @@ module _ {A : Type 0} {before : A → A → Bool} (order : IsOrder before) where
           | false ↦ λ _. refl
         ] there
 
-        at_front : place_in before y (z ∷ zs) ≤ 1 → put_in before y zs ≡ y ∷ zs
-        at_front high = elim (before z y) as (λ b. before z y ≡ b → cond b (suc (place_in before y zs)) 0 ≤ 1 → put_in before y zs ≡ y ∷ zs) [
+        at_front : place_in before y (z ∷ zs) ≤ 1 → insert_by before y zs ≡ y ∷ zs
+        at_front high = elim (before z y) as (λ b. before z y ≡ b → cond b (suc (place_in before y zs)) 0 ≤ 1 → insert_by before y zs ≡ y ∷ zs) [
           | true ↦ λ _ high. put-front before y zs (omega arith)
-          | false ↦ λ far _. put_in-front order y zs (all_weaker (λ w. before w z ≡ false) (λ w. before w y ≡ false) zs (λ w later. not_before-chains order y z w far later) ordered.0)
+          | false ↦ λ far _. insert_by-front order y zs (all_weaker (λ w. before w z ≡ false) (λ w. before w y ≡ false) zs (λ w later. not_before-chains order y z w far later) ordered.0)
         ] refl high

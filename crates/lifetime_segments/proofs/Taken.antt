@@ -2,8 +2,8 @@
 use Rattle.std.proofs.Common.{◌≡◌, ◌≤◌, ◌⊎◌, Bool, true, false, cond, List, [], ◌∷◌, ◌++◌, length, Option, Some, None, inl, inr, refl, sym, ap, ◌∙◌, arith}
 use Rattle.std.specs.Prelude.{map}
 use Rattle.std.specs.List.{filter}
-use Rattle.lifetime_segments.specs.Ordered.{IsOrder, put_in, in_order}
-use Rattle.lifetime_segments.specs.OrderedLaws.{in_order-middle, put_in-either, put_in-swap}
+use Rattle.lifetime_segments.specs.Ordered.{IsOrder, insert_by, in_order}
+use Rattle.lifetime_segments.specs.OrderedLaws.{in_order-middle, insert_by-either, insert_by-swap}
 use Rattle.lifetime_segments.specs.Tries.{with, taken}
 
 abbrev pub after : {Y Z : Type 0} → Option Y → (Y → Option Z) → Option Z
@@ -54,35 +54,35 @@ module _ {X Y : Type 0} {before : Y → Y → Bool} (order : IsOrder before) whe
         ap (λ o. in_order before (with (f x) (taken f xs) ++ with o (taken g xs))) here.0
         ∙ ap (λ o. in_order before (with o (taken f xs) ++ taken g xs)) here.1
         ∙ (elim (all x) as (λ o. in_order before (with o (taken f xs) ++ taken g xs) ≡ in_order before (with o (taken all xs))) [
-          | Some y ↦ ap (put_in before y) rest
+          | Some y ↦ ap (insert_by before y) rest
           | None ↦ rest
         ])
     joined (inr here) rest =
         ap (λ o. in_order before (with o (taken f xs) ++ with (g x) (taken g xs))) here.0
         ∙ ap (λ o. in_order before (taken f xs ++ with o (taken g xs))) here.1
         ∙ (elim (all x) as (λ o. in_order before (taken f xs ++ with o (taken g xs)) ≡ in_order before (with o (taken all xs))) [
-          | Some y ↦ in_order-middle order y (taken f xs) (taken g xs) ∙ ap (put_in before y) rest
+          | Some y ↦ in_order-middle order y (taken f xs) (taken g xs) ∙ ap (insert_by before y) rest
           | None ↦ rest
         ])
 
 module _ {X Y : Type 0} (earlier : X → X → Bool) {before : Y → Y → Bool} (order : IsOrder before) (f : X → Option Y) where
   with-alike : (o : Option Y) (ys zs : List Y) → in_order before ys ≡ in_order before zs → in_order before (with o ys) ≡ in_order before (with o zs)
-  with-alike (Some y) ys zs same = ap (put_in before y) same
+  with-alike (Some y) ys zs same = ap (insert_by before y) same
   with-alike None ys zs same = same
 
   with-swap : (o p : Option Y) (ys : List Y) → in_order before (with o (with p ys)) ≡ in_order before (with p (with o ys))
-  with-swap (Some y) (Some z) ys = put_in-swap order y z (in_order before ys)
+  with-swap (Some y) (Some z) ys = insert_by-swap order y z (in_order before ys)
   with-swap (Some y) None ys = refl
   with-swap None p ys = refl
 
-  taken-put_in : (x : X) (xs : List X) → in_order before (taken f (put_in earlier x xs)) ≡ in_order before (taken f (x ∷ xs))
-  taken-put_in x [] = refl
-  taken-put_in x (y ∷ ys) = put_in-either (λ zs. in_order before (taken f zs) ≡ in_order before (taken f (x ∷ y ∷ ys))) earlier x y ys
-      (with-alike (f y) (taken f (put_in earlier x ys)) (taken f (x ∷ ys)) (taken-put_in x ys) ∙ with-swap (f y) (f x) (taken f ys)) refl
+  taken-insert_by : (x : X) (xs : List X) → in_order before (taken f (insert_by earlier x xs)) ≡ in_order before (taken f (x ∷ xs))
+  taken-insert_by x [] = refl
+  taken-insert_by x (y ∷ ys) = insert_by-either (λ zs. in_order before (taken f zs) ≡ in_order before (taken f (x ∷ y ∷ ys))) earlier x y ys
+      (with-alike (f y) (taken f (insert_by earlier x ys)) (taken f (x ∷ ys)) (taken-insert_by x ys) ∙ with-swap (f y) (f x) (taken f ys)) refl
 
   pub taken-in_order : (xs : List X) → in_order before (taken f (in_order earlier xs)) ≡ in_order before (taken f xs)
   taken-in_order [] = refl
-  taken-in_order (x ∷ xs) = taken-put_in x (in_order earlier xs) ∙ with-alike (f x) (taken f (in_order earlier xs)) (taken f xs) (taken-in_order xs)
+  taken-in_order (x ∷ xs) = taken-insert_by x (in_order earlier xs) ∙ with-alike (f x) (taken f (in_order earlier xs)) (taken f xs) (taken-in_order xs)
 
   -- of lists that are one in their order as much is taken
   pub taken-alike : (xs ys : List X) → in_order earlier xs ≡ in_order earlier ys → in_order before (taken f xs) ≡ in_order before (taken f ys)

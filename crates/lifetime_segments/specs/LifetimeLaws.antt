@@ -4,8 +4,8 @@ use Rattle.std.specs.Prelude.{◌==◌, ◌&&◌, ◌||◌, not, nat_lt, map}
 use Rattle.std.specs.List.{filter}
 use Rattle.std.proofs.lemmas.Bool.Decides.{nat_tests}
 use Rattle.lifetime_segments.specs.declared.lifetime.Lifetime.{Lifetime}
-use Rattle.lifetime_segments.specs.Ordered.{IsOrder, put_in, in_order}
-use Rattle.lifetime_segments.specs.OrderedLaws.{put_in-either, put_in-swap}
+use Rattle.lifetime_segments.specs.Ordered.{IsOrder, insert_by, in_order}
+use Rattle.lifetime_segments.specs.OrderedLaws.{insert_by-either, insert_by-swap}
 use Rattle.lifetime_segments.specs.Lifetimes.{lifetime, holds, items_at, stands_earlier, stands_by_item}
 
 -- a strict order whose ties are the same in some sense
@@ -130,10 +130,10 @@ module _ {A : Type 0} {before : A → A → Bool} (order : IsOrder before) where
 
   -- an element that is put in, or not
   abbrev also : Bool → A → List A → List A
-  also there x xs = cond there (put_in before x xs) xs
+  also there x xs = cond there (insert_by before x xs) xs
 
   also-swap : (a b : Bool) (x y : A) (xs : List A) → also a x (also b y xs) ≡ also b y (also a x xs)
-  also-swap true true x y xs = put_in-swap order x y xs
+  also-swap true true x y xs = insert_by-swap order x y xs
   also-swap true false x y xs = refl
   also-swap false true x y xs = refl
   also-swap false false x y xs = refl
@@ -147,11 +147,11 @@ module _ {A : Type 0} {before : A → A → Bool} (order : IsOrder before) where
       ]
 
   -- a lifetime that is put in
-  items_at-put_in : (label : ℕ) (life : Lifetime A) (lives : List (Lifetime A)) → in_order before (items_at label (put_in (stands_earlier before) life lives)) ≡ in_order before (items_at label (life ∷ lives))
-  items_at-put_in label life [] = refl
-  items_at-put_in label life (first ∷ lives) = put_in-either (λ ls. in_order before (items_at label ls) ≡ in_order before (items_at label (life ∷ first ∷ lives))) (stands_earlier before) life first lives
-      (items_at-cons label first (put_in (stands_earlier before) life lives)
-      ∙ ap (also (holds label first) first.item) (items_at-put_in label life lives ∙ items_at-cons label life lives)
+  items_at-insert_by : (label : ℕ) (life : Lifetime A) (lives : List (Lifetime A)) → in_order before (items_at label (insert_by (stands_earlier before) life lives)) ≡ in_order before (items_at label (life ∷ lives))
+  items_at-insert_by label life [] = refl
+  items_at-insert_by label life (first ∷ lives) = insert_by-either (λ ls. in_order before (items_at label ls) ≡ in_order before (items_at label (life ∷ first ∷ lives))) (stands_earlier before) life first lives
+      (items_at-cons label first (insert_by (stands_earlier before) life lives)
+      ∙ ap (also (holds label first) first.item) (items_at-insert_by label life lives ∙ items_at-cons label life lives)
       ∙ also-swap (holds label first) (holds label life) first.item life.item (in_order before (items_at label lives))
       ∙ sym (items_at-cons label life (first ∷ lives) ∙ ap (also (holds label life) life.item) (items_at-cons label first lives)))
       refl
@@ -160,7 +160,7 @@ module _ {A : Type 0} {before : A → A → Bool} (order : IsOrder before) where
   pub items_at-in_order : (label : ℕ) (lives : List (Lifetime A)) → in_order before (items_at label (in_order (stands_earlier before) lives)) ≡ in_order before (items_at label lives)
   items_at-in_order label [] = refl
   items_at-in_order label (life ∷ lives) =
-      items_at-put_in label life (in_order (stands_earlier before) lives)
+      items_at-insert_by label life (in_order (stands_earlier before) lives)
       ∙ items_at-cons label life (in_order (stands_earlier before) lives)
       ∙ ap (also (holds label life) life.item) (items_at-in_order label lives)
       ∙ sym (items_at-cons label life lives)

@@ -14,14 +14,14 @@ AreInOrder before [] = Unit {0}
 AreInOrder before (x ∷ xs) = AllByRecursion (λ later. before later x ≡ false) xs × AreInOrder before xs
 
 -- an element put in right after those in front that stand before it
-abbrev pub put_in : {A : Type 0} → (A → A → Bool) → A → List A → List A
-put_in before x [] = x ∷ []
-put_in before x (y ∷ ys) = cond (before y x) (y ∷ put_in before x ys) (x ∷ y ∷ ys)
+abbrev pub insert_by : {A : Type 0} → (A → A → Bool) → A → List A → List A
+insert_by before x [] = x ∷ []
+insert_by before x (y ∷ ys) = cond (before y x) (y ∷ insert_by before x ys) (x ∷ y ∷ ys)
 
 -- the elements put in one by one
 abbrev pub in_order : {A : Type 0} → (A → A → Bool) → List A → List A
 in_order before [] = []
-in_order before (x ∷ xs) = put_in before x (in_order before xs)
+in_order before (x ∷ xs) = insert_by before x (in_order before xs)
 
 -- whether an element is there, right after those in front that stand before it
 abbrev pub is_in : {A : Type 0} → (A → A → Bool) → A → List A → Bool

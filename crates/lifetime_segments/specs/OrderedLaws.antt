@@ -2,11 +2,11 @@
 use Rattle.std.proofs.Common.{◌≡◌, suc, ◌≤◌, Bool, true, false, cond, not, List, [], ◌∷◌, ◌++◌, length, refl, sym, ap, ◌∙◌, arith}
 use Rattle.std.specs.List.{AllByRecursion}
 use Rattle.retro_base.specs.OrderLaws.{all_weaker}
-use Rattle.lifetime_segments.specs.Ordered.{IsOrder, AreInOrder, put_in, in_order, is_in, without}
+use Rattle.lifetime_segments.specs.Ordered.{IsOrder, AreInOrder, insert_by, in_order, is_in, without}
 
 -- what holds of a list with an element put in, or without one, by what becomes of its front
-pub put_in-either : {A : Type 0} (P : List A → Type 0) (before : A → A → Bool) (x y : A) (ys : List A) → P (y ∷ put_in before x ys) → P (x ∷ y ∷ ys) → P (put_in before x (y ∷ ys))
-put_in-either P before x y ys past here = elim (before y x) as (λ b. P (cond b (y ∷ put_in before x ys) (x ∷ y ∷ ys))) [
+pub insert_by-either : {A : Type 0} (P : List A → Type 0) (before : A → A → Bool) (x y : A) (ys : List A) → P (y ∷ insert_by before x ys) → P (x ∷ y ∷ ys) → P (insert_by before x (y ∷ ys))
+insert_by-either P before x y ys past here = elim (before y x) as (λ b. P (cond b (y ∷ insert_by before x ys) (x ∷ y ∷ ys))) [
   | true ↦ past
   | false ↦ here
 ]
@@ -20,26 +20,26 @@ without-either P before x y ys past stays gone = elim (before y x) as (λ b. P (
   ]
 ]
 
-pub length-put_in : {A : Type 0} (before : A → A → Bool) (x : A) (xs : List A) → length (put_in before x xs) ≡ suc (length xs)
-length-put_in before x [] = refl
-length-put_in before x (y ∷ ys) = put_in-either (λ zs. length zs ≡ suc (suc (length ys))) before x y ys (ap suc (length-put_in before x ys)) refl
+pub length-insert_by : {A : Type 0} (before : A → A → Bool) (x : A) (xs : List A) → length (insert_by before x xs) ≡ suc (length xs)
+length-insert_by before x [] = refl
+length-insert_by before x (y ∷ ys) = insert_by-either (λ zs. length zs ≡ suc (suc (length ys))) before x y ys (ap suc (length-insert_by before x ys)) refl
 
 pub length-in_order : {A : Type 0} (before : A → A → Bool) (xs : List A) → length (in_order before xs) ≡ length xs
 length-in_order before [] = refl
-length-in_order before (x ∷ xs) = length-put_in before x (in_order before xs) ∙ ap suc (length-in_order before xs)
+length-in_order before (x ∷ xs) = length-insert_by before x (in_order before xs) ∙ ap suc (length-in_order before xs)
 
 pub length-without : {A : Type 0} (before : A → A → Bool) (x : A) (xs : List A) → length (without before x xs) ≤ length xs
 length-without before x [] = omega arith
 length-without before x (y ∷ ys) = let fewer = length-without before x ys in without-either (λ zs. length zs ≤ suc (length ys)) before x y ys (omega arith) (omega arith) (omega arith)
 
 -- what holds of all elements and of one more holds of all after it is put in
-pub all-put_in : {A : Type 0} (P : A → Type 0) (before : A → A → Bool) (x : A) (xs : List A) → P x → AllByRecursion P xs → AllByRecursion P (put_in before x xs)
-all-put_in P before x [] here all = (here, tt)
-all-put_in P before x (y ∷ ys) here all = put_in-either (AllByRecursion P) before x y ys (all.0, all-put_in P before x ys here all.1) (here, all)
+pub all-insert_by : {A : Type 0} (P : A → Type 0) (before : A → A → Bool) (x : A) (xs : List A) → P x → AllByRecursion P xs → AllByRecursion P (insert_by before x xs)
+all-insert_by P before x [] here all = (here, tt)
+all-insert_by P before x (y ∷ ys) here all = insert_by-either (AllByRecursion P) before x y ys (all.0, all-insert_by P before x ys here all.1) (here, all)
 
 pub all-in_order : {A : Type 0} (P : A → Type 0) (before : A → A → Bool) (xs : List A) → AllByRecursion P xs → AllByRecursion P (in_order before xs)
 all-in_order P before [] all = tt
-all-in_order P before (x ∷ xs) all = all-put_in P before x (in_order before xs) all.0 (all-in_order P before xs all.1)
+all-in_order P before (x ∷ xs) all = all-insert_by P before x (in_order before xs) all.0 (all-in_order P before xs all.1)
 
 pub all-without : {A : Type 0} (P : A → Type 0) (before : A → A → Bool) (x : A) (xs : List A) → AllByRecursion P xs → AllByRecursion P (without before x xs)
 all-without P before x [] all = tt
@@ -73,11 +73,11 @@ module _ {A : Type 0} {before : A → A → Bool} (order : IsOrder before) where
     ] refl
   ] refl
 
-  pub put_in-past : (x y : A) (ys : List A) → before y x ≡ true → put_in before x (y ∷ ys) ≡ y ∷ put_in before x ys
-  put_in-past x y ys past = ap (λ b. cond b (y ∷ put_in before x ys) (x ∷ y ∷ ys)) past
+  pub insert_by-past : (x y : A) (ys : List A) → before y x ≡ true → insert_by before x (y ∷ ys) ≡ y ∷ insert_by before x ys
+  insert_by-past x y ys past = ap (λ b. cond b (y ∷ insert_by before x ys) (x ∷ y ∷ ys)) past
 
-  pub put_in-here : (x y : A) (ys : List A) → before y x ≡ false → put_in before x (y ∷ ys) ≡ x ∷ y ∷ ys
-  put_in-here x y ys here = ap (λ b. cond b (y ∷ put_in before x ys) (x ∷ y ∷ ys)) here
+  pub insert_by-here : (x y : A) (ys : List A) → before y x ≡ false → insert_by before x (y ∷ ys) ≡ x ∷ y ∷ ys
+  insert_by-here x y ys here = ap (λ b. cond b (y ∷ insert_by before x ys) (x ∷ y ∷ ys)) here
 
   is_in-past : (x y : A) (ys : List A) → before y x ≡ true → is_in before x (y ∷ ys) ≡ is_in before x ys
   is_in-past x y ys past = ap (λ b. cond b (is_in before x ys) (not (before x y))) past
@@ -92,66 +92,66 @@ module _ {A : Type 0} {before : A → A → Bool} (order : IsOrder before) where
   here_without x xs = ap (λ b. cond b (x ∷ without before x xs) (cond b (x ∷ xs) xs)) (order.strict x)
 
   -- at the front of a list, of two elements that stand there
-  swap_here : (x y : A) (xs : List A) → put_in before x xs ≡ x ∷ xs → put_in before y xs ≡ y ∷ xs → put_in before x (put_in before y xs) ≡ put_in before y (put_in before x xs)
-  swap_here x y xs at_x at_y = ap (put_in before x) at_y ∙ (elim (before y x) as (λ b. before y x ≡ b → put_in before x (y ∷ xs) ≡ put_in before y (x ∷ xs)) [
-    | true ↦ λ past. put_in-past x y xs past ∙ ap (λ zs. y ∷ zs) at_x ∙ sym (put_in-here y x xs (not_both y x past))
-    | false ↦ λ here. put_in-here x y xs here ∙ elim (before x y) as (λ b. before x y ≡ b → x ∷ y ∷ xs ≡ put_in before y (x ∷ xs)) [
-      | true ↦ λ up. ap (λ zs. x ∷ zs) (sym at_y) ∙ sym (put_in-past y x xs up)
-      | false ↦ λ level. let same : x ≡ y = order.total x y level here in rw (same, put_in-here y y xs (order.strict y)) refl
+  swap_here : (x y : A) (xs : List A) → insert_by before x xs ≡ x ∷ xs → insert_by before y xs ≡ y ∷ xs → insert_by before x (insert_by before y xs) ≡ insert_by before y (insert_by before x xs)
+  swap_here x y xs at_x at_y = ap (insert_by before x) at_y ∙ (elim (before y x) as (λ b. before y x ≡ b → insert_by before x (y ∷ xs) ≡ insert_by before y (x ∷ xs)) [
+    | true ↦ λ past. insert_by-past x y xs past ∙ ap (λ zs. y ∷ zs) at_x ∙ sym (insert_by-here y x xs (not_both y x past))
+    | false ↦ λ here. insert_by-here x y xs here ∙ elim (before x y) as (λ b. before x y ≡ b → x ∷ y ∷ xs ≡ insert_by before y (x ∷ xs)) [
+      | true ↦ λ up. ap (λ zs. x ∷ zs) (sym at_y) ∙ sym (insert_by-past y x xs up)
+      | false ↦ λ level. let same : x ≡ y = order.total x y level here in rw (same, insert_by-here y y xs (order.strict y)) refl
     ] refl
-  ] refl) ∙ sym (ap (put_in before y) at_x)
+  ] refl) ∙ sym (ap (insert_by before y) at_x)
 
   -- it does not matter which of two elements is put in first
-  pub put_in-swap : (x y : A) (xs : List A) → put_in before x (put_in before y xs) ≡ put_in before y (put_in before x xs)
-  put_in-swap x y [] = swap_here x y [] refl refl
-  put_in-swap x y (z ∷ zs) =
-      elim (before z x) as (λ b. before z x ≡ b → put_in before x (put_in before y (z ∷ zs)) ≡ put_in before y (put_in before x (z ∷ zs))) [
-        | true ↦ λ past_x. elim (before z y) as (λ b. before z y ≡ b → put_in before x (put_in before y (z ∷ zs)) ≡ put_in before y (put_in before x (z ∷ zs))) [
+  pub insert_by-swap : (x y : A) (xs : List A) → insert_by before x (insert_by before y xs) ≡ insert_by before y (insert_by before x xs)
+  insert_by-swap x y [] = swap_here x y [] refl refl
+  insert_by-swap x y (z ∷ zs) =
+      elim (before z x) as (λ b. before z x ≡ b → insert_by before x (insert_by before y (z ∷ zs)) ≡ insert_by before y (insert_by before x (z ∷ zs))) [
+        | true ↦ λ past_x. elim (before z y) as (λ b. before z y ≡ b → insert_by before x (insert_by before y (z ∷ zs)) ≡ insert_by before y (insert_by before x (z ∷ zs))) [
           | true ↦ λ past_y.
-              rw (put_in-past y z zs past_y, put_in-past x z zs past_x, put_in-past x z (put_in before y zs) past_x, put_in-past y z (put_in before x zs) past_y)
-              (ap (λ xs. z ∷ xs) (put_in-swap x y zs))
+              rw (insert_by-past y z zs past_y, insert_by-past x z zs past_x, insert_by-past x z (insert_by before y zs) past_x, insert_by-past y z (insert_by before x zs) past_y)
+              (ap (λ xs. z ∷ xs) (insert_by-swap x y zs))
           | false ↦ λ at_y. past_and_here x y z zs past_x at_y
         ] refl
-        | false ↦ λ at_x. elim (before z y) as (λ b. before z y ≡ b → put_in before x (put_in before y (z ∷ zs)) ≡ put_in before y (put_in before x (z ∷ zs))) [
+        | false ↦ λ at_x. elim (before z y) as (λ b. before z y ≡ b → insert_by before x (insert_by before y (z ∷ zs)) ≡ insert_by before y (insert_by before x (z ∷ zs))) [
           | true ↦ λ past_y. sym (past_and_here y x z zs past_y at_x)
-          | false ↦ λ at_y. swap_here x y (z ∷ zs) (put_in-here x z zs at_x) (put_in-here y z zs at_y)
+          | false ↦ λ at_y. swap_here x y (z ∷ zs) (insert_by-here x z zs at_x) (insert_by-here y z zs at_y)
         ] refl
       ] refl where
-        past_and_here : (x y z : A) (zs : List A) → before z x ≡ true → before z y ≡ false → put_in before x (put_in before y (z ∷ zs)) ≡ put_in before y (put_in before x (z ∷ zs))
+        past_and_here : (x y z : A) (zs : List A) → before z x ≡ true → before z y ≡ false → insert_by before x (insert_by before y (z ∷ zs)) ≡ insert_by before y (insert_by before x (z ∷ zs))
         past_and_here x y z zs past_x at_y =
-            ap (put_in before x) (put_in-here y z zs at_y)
-            ∙ put_in-past x y (z ∷ zs) (between x y z past_x at_y)
-            ∙ ap (λ xs. y ∷ xs) (put_in-past x z zs past_x)
-            ∙ sym (ap (put_in before y) (put_in-past x z zs past_x) ∙ put_in-here y z (put_in before x zs) at_y)
+            ap (insert_by before x) (insert_by-here y z zs at_y)
+            ∙ insert_by-past x y (z ∷ zs) (between x y z past_x at_y)
+            ∙ ap (λ xs. y ∷ xs) (insert_by-past x z zs past_x)
+            ∙ sym (ap (insert_by before y) (insert_by-past x z zs past_x) ∙ insert_by-here y z (insert_by before x zs) at_y)
 
-  pub in_order-middle : (x : A) (xs ys : List A) → in_order before (xs ++ x ∷ ys) ≡ put_in before x (in_order before (xs ++ ys))
+  pub in_order-middle : (x : A) (xs ys : List A) → in_order before (xs ++ x ∷ ys) ≡ insert_by before x (in_order before (xs ++ ys))
   in_order-middle x [] ys = refl
-  in_order-middle x (y ∷ xs) ys = ap (put_in before y) (in_order-middle x xs ys) ∙ put_in-swap y x (in_order before (xs ++ ys))
+  in_order-middle x (y ∷ xs) ys = ap (insert_by before y) (in_order-middle x xs ys) ∙ insert_by-swap y x (in_order before (xs ++ ys))
 
   -- an element that was put in is as one at the front
-  pub in_order-put_in : (x : A) (xs ys : List A) → in_order before (put_in before x xs ++ ys) ≡ put_in before x (in_order before (xs ++ ys))
-  in_order-put_in x [] ys = refl
-  in_order-put_in x (z ∷ zs) ys = elim (before z x) as (λ b. before z x ≡ b → in_order before (put_in before x (z ∷ zs) ++ ys) ≡ put_in before x (in_order before (z ∷ zs ++ ys))) [
-    | true ↦ λ past. ap (λ l. in_order before (l ++ ys)) (put_in-past x z zs past) ∙ ap (put_in before z) (in_order-put_in x zs ys) ∙ put_in-swap z x (in_order before (zs ++ ys))
-    | false ↦ λ here. ap (λ l. in_order before (l ++ ys)) (put_in-here x z zs here)
+  pub in_order-insert_by : (x : A) (xs ys : List A) → in_order before (insert_by before x xs ++ ys) ≡ insert_by before x (in_order before (xs ++ ys))
+  in_order-insert_by x [] ys = refl
+  in_order-insert_by x (z ∷ zs) ys = elim (before z x) as (λ b. before z x ≡ b → in_order before (insert_by before x (z ∷ zs) ++ ys) ≡ insert_by before x (in_order before (z ∷ zs ++ ys))) [
+    | true ↦ λ past. ap (λ l. in_order before (l ++ ys)) (insert_by-past x z zs past) ∙ ap (insert_by before z) (in_order-insert_by x zs ys) ∙ insert_by-swap z x (in_order before (zs ++ ys))
+    | false ↦ λ here. ap (λ l. in_order before (l ++ ys)) (insert_by-here x z zs here)
   ] refl
 
   pub in_order-absorbs : (xs ys : List A) → in_order before (in_order before xs ++ ys) ≡ in_order before (xs ++ ys)
   in_order-absorbs [] ys = refl
-  in_order-absorbs (x ∷ xs) ys = in_order-put_in x (in_order before xs) ys ∙ ap (put_in before x) (in_order-absorbs xs ys)
+  in_order-absorbs (x ∷ xs) ys = in_order-insert_by x (in_order before xs) ys ∙ ap (insert_by before x) (in_order-absorbs xs ys)
 
-  pub is_in-put_in : (x : A) (xs : List A) → is_in before x (put_in before x xs) ≡ true
-  is_in-put_in x [] = here_is_in x []
-  is_in-put_in x (y ∷ ys) = elim (before y x) as (λ b. before y x ≡ b → is_in before x (put_in before x (y ∷ ys)) ≡ true) [
-    | true ↦ λ past. ap (is_in before x) (put_in-past x y ys past) ∙ is_in-past x y (put_in before x ys) past ∙ is_in-put_in x ys
-    | false ↦ λ here. ap (is_in before x) (put_in-here x y ys here) ∙ here_is_in x (y ∷ ys)
+  pub is_in-insert_by : (x : A) (xs : List A) → is_in before x (insert_by before x xs) ≡ true
+  is_in-insert_by x [] = here_is_in x []
+  is_in-insert_by x (y ∷ ys) = elim (before y x) as (λ b. before y x ≡ b → is_in before x (insert_by before x (y ∷ ys)) ≡ true) [
+    | true ↦ λ past. ap (is_in before x) (insert_by-past x y ys past) ∙ is_in-past x y (insert_by before x ys) past ∙ is_in-insert_by x ys
+    | false ↦ λ here. ap (is_in before x) (insert_by-here x y ys here) ∙ here_is_in x (y ∷ ys)
   ] refl
 
-  pub without-put_in : (x : A) (xs : List A) → without before x (put_in before x xs) ≡ xs
-  without-put_in x [] = here_without x []
-  without-put_in x (y ∷ ys) = elim (before y x) as (λ b. before y x ≡ b → without before x (put_in before x (y ∷ ys)) ≡ y ∷ ys) [
-    | true ↦ λ past. ap (without before x) (put_in-past x y ys past) ∙ without-past x y (put_in before x ys) past ∙ ap (λ zs. y ∷ zs) (without-put_in x ys)
-    | false ↦ λ here. ap (without before x) (put_in-here x y ys here) ∙ here_without x (y ∷ ys)
+  pub without-insert_by : (x : A) (xs : List A) → without before x (insert_by before x xs) ≡ xs
+  without-insert_by x [] = here_without x []
+  without-insert_by x (y ∷ ys) = elim (before y x) as (λ b. before y x ≡ b → without before x (insert_by before x (y ∷ ys)) ≡ y ∷ ys) [
+    | true ↦ λ past. ap (without before x) (insert_by-past x y ys past) ∙ without-past x y (insert_by before x ys) past ∙ ap (λ zs. y ∷ zs) (without-insert_by x ys)
+    | false ↦ λ here. ap (without before x) (insert_by-here x y ys here) ∙ here_without x (y ∷ ys)
   ] refl
 
   -- not to stand before is transitive
@@ -161,25 +161,25 @@ module _ {A : Type 0} {before : A → A → Bool} (order : IsOrder before) where
     | false ↦ λ _. refl
   ] refl
 
-  pub put_in-ordered : (x : A) (xs : List A) → AreInOrder before xs → AreInOrder before (put_in before x xs)
-  put_in-ordered x [] ordered = (tt, tt)
-  put_in-ordered x (y ∷ ys) ordered = elim (before y x) as (λ b. before y x ≡ b → AreInOrder before (cond b (y ∷ put_in before x ys) (x ∷ y ∷ ys))) [
-    | true ↦ λ past. (all-put_in (λ later. before later y ≡ false) before x ys (not_both y x past) ordered.0, put_in-ordered x ys ordered.1)
+  pub insert_by-ordered : (x : A) (xs : List A) → AreInOrder before xs → AreInOrder before (insert_by before x xs)
+  insert_by-ordered x [] ordered = (tt, tt)
+  insert_by-ordered x (y ∷ ys) ordered = elim (before y x) as (λ b. before y x ≡ b → AreInOrder before (cond b (y ∷ insert_by before x ys) (x ∷ y ∷ ys))) [
+    | true ↦ λ past. (all-insert_by (λ later. before later y ≡ false) before x ys (not_both y x past) ordered.0, insert_by-ordered x ys ordered.1)
     | false ↦ λ here. ((here, all_weaker (λ later. before later y ≡ false) (λ later. before later x ≡ false) ys (λ later far. not_before-chains x y later here far) ordered.0), ordered)
   ] refl
 
   pub in_order-ordered : (xs : List A) → AreInOrder before (in_order before xs)
   in_order-ordered [] = tt
-  in_order-ordered (x ∷ xs) = put_in-ordered x (in_order before xs) (in_order-ordered xs)
+  in_order-ordered (x ∷ xs) = insert_by-ordered x (in_order before xs) (in_order-ordered xs)
 
   -- at the front of a list whose elements do not stand before it
-  pub put_in-front : (x : A) (xs : List A) → AllByRecursion (λ later. before later x ≡ false) xs → put_in before x xs ≡ x ∷ xs
-  put_in-front x [] all = refl
-  put_in-front x (y ∷ ys) all = put_in-here x y ys all.0
+  pub insert_by-front : (x : A) (xs : List A) → AllByRecursion (λ later. before later x ≡ false) xs → insert_by before x xs ≡ x ∷ xs
+  insert_by-front x [] all = refl
+  insert_by-front x (y ∷ ys) all = insert_by-here x y ys all.0
 
   pub in_order-kept : (xs : List A) → AreInOrder before xs → in_order before xs ≡ xs
   in_order-kept [] ordered = refl
-  in_order-kept (x ∷ xs) ordered = ap (put_in before x) (in_order-kept xs ordered.1) ∙ put_in-front x xs ordered.0
+  in_order-kept (x ∷ xs) ordered = ap (insert_by before x) (in_order-kept xs ordered.1) ∙ insert_by-front x xs ordered.0
 
   -- of two of which neither stands before the other, where the tests say so
   same_at : (x y : A) → before y x ≡ false → not (before x y) ≡ true → x ≡ y
@@ -188,16 +188,16 @@ module _ {A : Type 0} {before : A → A → Bool} (order : IsOrder before) where
     | false ↦ λ _. refl
   ] there) here
 
-  pub put_in-without : (x : A) (xs : List A) → AreInOrder before xs → is_in before x xs ≡ true → put_in before x (without before x xs) ≡ xs
-  put_in-without x [] ordered there = absurd (cc)
-  put_in-without x (y ∷ ys) ordered there = elim (before y x) as (λ b. before y x ≡ b → put_in before x (without before x (y ∷ ys)) ≡ y ∷ ys) [
+  pub insert_by-without : (x : A) (xs : List A) → AreInOrder before xs → is_in before x xs ≡ true → insert_by before x (without before x xs) ≡ xs
+  insert_by-without x [] ordered there = absurd (cc)
+  insert_by-without x (y ∷ ys) ordered there = elim (before y x) as (λ b. before y x ≡ b → insert_by before x (without before x (y ∷ ys)) ≡ y ∷ ys) [
     | true ↦ λ past.
-        ap (put_in before x) (without-past x y ys past)
-        ∙ put_in-past x y (without before x ys) past
-        ∙ ap (λ zs. y ∷ zs) (put_in-without x ys ordered.1 (sym (is_in-past x y ys past) ∙ there))
+        ap (insert_by before x) (without-past x y ys past)
+        ∙ insert_by-past x y (without before x ys) past
+        ∙ ap (λ zs. y ∷ zs) (insert_by-without x ys ordered.1 (sym (is_in-past x y ys past) ∙ there))
     | false ↦ λ here.
         let same : x ≡ y = same_at x y here (sym (ap (λ b. cond b (is_in before x ys) (not (before x y))) here) ∙ there) in
-        ap (λ w. put_in before w (without before w (y ∷ ys))) same ∙ ap (put_in before y) (here_without y ys) ∙ put_in-front y ys ordered.0
+        ap (λ w. insert_by before w (without before w (y ∷ ys))) same ∙ ap (insert_by before y) (here_without y ys) ∙ insert_by-front y ys ordered.0
   ] refl
 
   pub without-ordered : (x : A) (xs : List A) → AreInOrder before xs → AreInOrder before (without before x xs)

@@ -36,15 +36,15 @@ is_whole level life = (life.from == 0) && nat_le (2 ^ level) life.to
 abbrev pub whole_item : {A : Type 0} → ℕ → Lifetime A → Option A
 whole_item level life = cond (is_whole level life) (Some life.item) None
 
-abbrev pub first_part : {A : Type 0} → ℕ → Lifetime A → Option (Lifetime A)
-first_part level life = cond (is_whole level life) None (cond (nat_lt life.from (2 ^ (level - 1))) (Some (ending (min life.to (2 ^ (level - 1))) life)) None)
+abbrev pub in_first : {A : Type 0} → ℕ → Lifetime A → Option (Lifetime A)
+in_first level life = cond (is_whole level life) None (cond (nat_lt life.from (2 ^ (level - 1))) (Some (ending (min life.to (2 ^ (level - 1))) life)) None)
 
-abbrev pub second_part : {A : Type 0} → ℕ → Lifetime A → Option (Lifetime A)
-second_part level life = cond (is_whole level life) None (cond (nat_lt (2 ^ (level - 1)) life.to) (Some (seen_from (2 ^ (level - 1)) life)) None)
+abbrev pub in_second : {A : Type 0} → ℕ → Lifetime A → Option (Lifetime A)
+in_second level life = cond (is_whole level life) None (cond (nat_lt (2 ^ (level - 1)) life.to) (Some (seen_from (2 ^ (level - 1)) life)) None)
 
 -- the items that are there at a label and lie in its halves
 abbrev pub items_below : {A : Type 0} → ℕ → ℕ → List (Lifetime A) → List A
-items_below level label lives = cond (nat_lt label (2 ^ (level - 1))) (items_at label (taken (first_part level) lives)) (items_at (label - 2 ^ (level - 1)) (taken (second_part level) lives))
+items_below level label lives = cond (nat_lt label (2 ^ (level - 1))) (items_at label (taken (in_first level) lives)) (items_at (label - 2 ^ (level - 1)) (taken (in_second level) lives))
 
 -- there are no lifetimes, and no node
 abbrev pub IsNothing : {A M : Type 0} → Trie A M → Type 0
@@ -63,15 +63,15 @@ IsOf before level (Full' p items left right) lives =
     (0 < length lives)
     × AllByRecursion (Lies level) lives
     × (items ≡ in_order before (taken (whole_item level) lives))
-    × IsOf before (level - 1) left (taken (first_part level) lives)
-    × IsOf before (level - 1) right (taken (second_part level) lives)
+    × IsOf before (level - 1) left (taken (in_first level) lives)
+    × IsOf before (level - 1) right (taken (in_second level) lives)
 
 -- the same of a node, which may have none
 pub record IsOfNode {A M : Type 0} (before : A → A → Bool) (level : ℕ) (node : Node A M) (lives : List (Lifetime A)) : Type 0 where
   pub lie : AllByRecursion (Lies level) lives
   pub items : node.items ≡ in_order before (taken (whole_item level) lives)
-  pub left : IsOf before (level - 1) node.left (taken (first_part level) lives)
-  pub right : IsOf before (level - 1) node.right (taken (second_part level) lives)
+  pub left : IsOf before (level - 1) node.left (taken (in_first level) lives)
+  pub right : IsOf before (level - 1) node.right (taken (in_second level) lives)
 
 -- the node has nothing
 pub record IsBare {A M : Type 0} (node : Node A M) : Type 0 where

@@ -7,7 +7,7 @@ ghost use Rattle.lifetime_segments.specs.Tries.{Edits, Has, IsOf, IsOfNode, Lies
 use crate::life_list::{LifeList, put_life};
 use crate::lifetime::Lifetime;
 use crate::sorted::{Order, put};
-use crate::taking::take_part;
+use crate::taking::take_in_half;
 use crate::trie::{FEW, Node, Trie};
 use retro_base::NoMemory;
 use std::alloc::Global;
@@ -77,9 +77,9 @@ pub(crate) fn add_to_node<O: Order>(
         return put::<O>(&mut node.items, life.item);
     }
     let first = life.in_first(level);
-    add_part::<O>(&mut node.left, level - 1, first, alloc)?;
-    if let Err(error) = add_part::<O>(&mut node.right, level - 1, life.in_second(level), alloc) {
-        take_part::<O>(&mut node.left, level - 1, first);
+    add_in_half::<O>(&mut node.left, level - 1, first, alloc)?;
+    if let Err(error) = add_in_half::<O>(&mut node.right, level - 1, life.in_second(level), alloc) {
+        take_in_half::<O>(&mut node.left, level - 1, first);
         return Err(error);
     }
     Ok(())
@@ -87,18 +87,18 @@ pub(crate) fn add_to_node<O: Order>(
 
 /// Puts in what of a lifetime lies in a half, if anything does.
 #[cycle(add)]
-fn add_part<O: Order>(
+fn add_in_half<O: Order>(
     half: &mut Trie<O::Item>,
     level: u32,
-    part: Option<Lifetime<O::Item>>,
+    clipped: Option<Lifetime<O::Item>>,
     alloc: Global,
 ) -> Result<(), NoMemory>
     requires level { level ≤ 40 }
-    requires lies { IfSome part (Lies level) }
+    requires lies { IfSome clipped (Lies level) }
     requires has { Has (IsOf O.stands_before level half.old) None }
-    ensures { Edits None part (IsOf O.stands_before level half.old) (IsOf O.stands_before level half.new) result }
+    ensures { Edits None clipped (IsOf O.stands_before level half.old) (IsOf O.stands_before level half.new) result }
 {
-    match part {
+    match clipped {
         Some(life) => add::<O>(half, level, life, alloc),
         None => Ok(()),
     }

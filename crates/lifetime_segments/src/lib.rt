@@ -7,8 +7,8 @@
 //! are, by their items. Where nothing is asked but at the last label, the items alone serve better.
 //!
 //! `Segments` is a segment tree (Bentley 1977) over labels of 40 bits. The spans of labels are dyadic: that of the root
-//! has all labels, and each has two halves. While the lifetimes in a span are few, it keeps them as they are, cut off where
-//! the span ends, in one vector by their items. Where more come in they are divided: the items of those that hold the
+//! has all labels, and each has two halves. While the lifetimes in a span are few, it keeps them as they are, clipped to
+//! the span, in one vector by their items. Where more come in they are divided: the items of those that hold the
 //! whole span lie in a tree of the span itself, in their order, and the others go on into the halves that they touch. So
 //! a lifetime is made up of at most two spans of each level. The spans that hold a label are those on the way from the
 //! root to it, 41 at the most, and a lifetime that holds the label lies in exactly one of them; so their answers are

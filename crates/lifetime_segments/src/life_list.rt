@@ -2,7 +2,7 @@
 ghost use Rattle.std.specs.Prelude.{◌≡◌, ◌<◌, ◌≤◌, true, [], length, take, slice_get, slice_set, Some, OnOk, OnErr};
 ghost use Rattle.std.specs.List.{AllByRecursion, insert, remove};
 ghost use Rattle.lifetime_segments.specs.Lifetimes.{stands_by_item};
-ghost use Rattle.lifetime_segments.specs.Ordered.{AreInOrder, put_in, is_in, without, place_in};
+ghost use Rattle.lifetime_segments.specs.Ordered.{AreInOrder, insert_by, is_in, without, place_in};
 
 use crate::decomposable::RangeSearch;
 use crate::lifetime::Lifetime;
@@ -112,7 +112,7 @@ pub(crate) fn put_life<O: Order>(
     life: Lifetime<O::Item>,
 ) -> Result<(), NoMemory>
     requires ordered { AreInOrder (stands_by_item O.stands_before) few.old }
-    ensures ok { OnOk result (few.new ≡ put_in (stands_by_item O.stands_before) life few.old) }
+    ensures ok { OnOk result (few.new ≡ insert_by (stands_by_item O.stands_before) life few.old) }
     ensures err { OnErr result (few.new ≡ few.old) }
 {
     let place = life_place::<O>(few, &life);
@@ -138,7 +138,7 @@ pub(crate) fn exchange_lives<O: Order>(
 ) -> Result<(), NoMemory>
     requires ordered { AreInOrder (stands_by_item O.stands_before) few.old }
     requires there { is_in (stands_by_item O.stands_before) life few.old ≡ true }
-    ensures ok { OnOk result (few.new ≡ without (stands_by_item O.stands_before) life (put_in (stands_by_item O.stands_before) other few.old)) }
+    ensures ok { OnOk result (few.new ≡ without (stands_by_item O.stands_before) life (insert_by (stands_by_item O.stands_before) other few.old)) }
     ensures err { OnErr result (few.new ≡ few.old) }
 {
     let place = life_place::<O>(few, &life);

@@ -1,7 +1,7 @@
 //! A lifetime: what of it lies in a span, and what in its halves.
 ghost use Rattle.std.specs.Prelude.{◌≡◌, ◌-◌, ◌<◌, ◌≤◌, ◌^◌, false, IfSome};
 ghost use Rattle.lifetime_segments.specs.Lifetimes.{holds};
-ghost use Rattle.lifetime_segments.specs.Tries.{Lies, ending, first_part, is_whole, second_part, seen_from};
+ghost use Rattle.lifetime_segments.specs.Tries.{Lies, ending, in_first, is_whole, in_second, seen_from};
 
 use monoid_laws::{Count, Measured};
 
@@ -74,7 +74,7 @@ impl<T: Copy> Lifetime<T> {
         requires level { level ≤ 40 }
         requires lies { Lies level self.now }
         requires broken { is_whole level self.now ≡ false }
-        ensures part { result ≡ first_part level self.now }
+        ensures clipped { result ≡ in_first level self.now }
         ensures lies { IfSome result (Lies (level - 1)) }
         ensures deep { 0 < level }
     {
@@ -91,7 +91,7 @@ impl<T: Copy> Lifetime<T> {
         requires level { level ≤ 40 }
         requires lies { Lies level self.now }
         requires broken { is_whole level self.now ≡ false }
-        ensures part { result ≡ second_part level self.now }
+        ensures clipped { result ≡ in_second level self.now }
         ensures lies { IfSome result (Lies (level - 1)) }
     {
         let half = labels(level - 1);

@@ -6,7 +6,7 @@ use crate::adding::{add, add_to_node};
 use crate::life_list::exchange_lives;
 use crate::lifetime::{Lifetime, labels};
 use crate::sorted::Order;
-use crate::taking::{take, take_from_node, take_part};
+use crate::taking::{take, take_from_node, take_in_half};
 use crate::trie::{Node, Trie};
 use retro_base::NoMemory;
 use std::alloc::Global;
@@ -82,7 +82,7 @@ fn move_in_halves<O: Order>(
     if next <= half {
         let first = life.ending(life.to.min(half));
         move_end::<O>(&mut node.left, level - 1, first, next, alloc)?;
-        take_part::<O>(&mut node.right, level - 1, life.in_second(level));
+        take_in_half::<O>(&mut node.right, level - 1, life.in_second(level));
         return Ok(());
     }
     if half < life.to {

@@ -3,7 +3,7 @@ ghost use Rattle.std.specs.Prelude.{◌≡◌, ◌<◌, ◌≤◌, true, [], len
 ghost use Rattle.std.specs.List.{AllByRecursion};
 ghost use Rattle.lifetime_segments.specs.Lawful.{most_items};
 ghost use Rattle.lifetime_segments.specs.Lifetimes.{label_end, lifetime, IsInRange, items_at, stands_earlier};
-ghost use Rattle.lifetime_segments.specs.Ordered.{AreInOrder, put_in, in_order, is_in, without, position_in};
+ghost use Rattle.lifetime_segments.specs.Ordered.{AreInOrder, insert_by, in_order, is_in, without, position_in};
 ghost use Rattle.lifetime_segments.specs.Tries.{AreHeld, Lies, ending};
 
 use crate::adding::add;
@@ -12,7 +12,7 @@ use crate::decomposable::{Decomposable, RangeSearch};
 use crate::lifetime::Lifetime;
 use crate::moving::move_end;
 use crate::search::ask;
-use crate::sorted::{ByItem, ByStart, Order, is_beside, place_of, position, put, take_out};
+use crate::sorted::{ByItem, ByStart, Order, is_beside, place_of, position, put, remove_ordered};
 use crate::taking::take;
 use crate::trie::Trie;
 use retro_base::NoMemory;
@@ -60,7 +60,7 @@ impl<D: Decomposable> Segments<D> {
         requires rises { from < to }
         requires within { to ≤ label_end }
         requires room { length self.old < most_items }
-        ensures ok { OnOk result (self.new ≡ put_in (stands_earlier D.stands_before) (lifetime from to item) self.old) }
+        ensures ok { OnOk result (self.new ≡ insert_by (stands_earlier D.stands_before) (lifetime from to item) self.old) }
         ensures err { OnErr result (self.new ≡ self.old) }
     {
         let life = Lifetime { from, to, item };
@@ -73,7 +73,7 @@ impl<D: Decomposable> Segments<D> {
         requires rises { from < next }
         requires within { next ≤ label_end }
         requires room { length self.old < most_items }
-        ensures ok { OnOk result (self.new ≡ without (stands_earlier D.stands_before) (lifetime from to item) (put_in (stands_earlier D.stands_before) (lifetime from next item) self.old)) }
+        ensures ok { OnOk result (self.new ≡ without (stands_earlier D.stands_before) (lifetime from to item) (insert_by (stands_earlier D.stands_before) (lifetime from next item) self.old)) }
         ensures err { OnErr result (self.new ≡ self.old) }
     {
         let life = Lifetime { from, to, item };
@@ -126,12 +126,12 @@ fn add_held<O: Order>(
     requires room { length held.old < most_items }
     requires held { AreHeld O.stands_before held.old root.old }
     ensures held { AreHeld O.stands_before held.new root.new }
-    ensures ok { OnOk result (held.new ≡ put_in (stands_earlier O.stands_before) life held.old) }
+    ensures ok { OnOk result (held.new ≡ insert_by (stands_earlier O.stands_before) life held.old) }
     ensures err { OnErr result (held.new ≡ held.old) }
 {
     put::<ByStart<O>>(held, life)?;
     if let Err(error) = add::<O>(root, LEVELS, life, held.alloc()) {
-        take_out::<ByStart<O>>(held, life);
+        remove_ordered::<ByStart<O>>(held, life);
         return Err(error);
     }
     Ok(())
@@ -168,7 +168,7 @@ fn move_held<O: Order>(
     requires place { position_in (stands_earlier O.stands_before) life held.old ≡ Some place }
     requires held { AreHeld O.stands_before held.old root.old }
     ensures held { AreHeld O.stands_before held.new root.new }
-    ensures ok { OnOk result (held.new ≡ without (stands_earlier O.stands_before) life (put_in (stands_earlier O.stands_before) (ending next life) held.old)) }
+    ensures ok { OnOk result (held.new ≡ without (stands_earlier O.stands_before) life (insert_by (stands_earlier O.stands_before) (ending next life) held.old)) }
     ensures err { OnErr result (held.new ≡ held.old) }
 {
     let moved = life.ending(next);
@@ -180,9 +180,9 @@ fn move_held<O: Order>(
     }
     put::<ByStart<O>>(held, moved)?;
     if let Err(error) = move_end::<O>(root, LEVELS, life, next, held.alloc()) {
-        take_out::<ByStart<O>>(held, moved);
+        remove_ordered::<ByStart<O>>(held, moved);
         return Err(error);
     }
-    take_out::<ByStart<O>>(held, life);
+    remove_ordered::<ByStart<O>>(held, life);
     Ok(())
 }

@@ -1,6 +1,6 @@
 //! Orders, and trees that keep their items in them.
 ghost use Rattle.std.specs.Prelude.{◌≡◌, ◌<◌, ◌≤◌, ◌^◌, Bool, true, suc, length, OnOk, OnErr};
-ghost use Rattle.lifetime_segments.specs.Ordered.{IsOrder, AreInOrder, put_in, is_in, without, place_in, position_in};
+ghost use Rattle.lifetime_segments.specs.Ordered.{IsOrder, AreInOrder, insert_by, is_in, without, place_in, position_in};
 ghost use Rattle.lifetime_segments.specs.Lifetimes.{stands_by_item, stands_earlier};
 ghost use Rattle.lifetime_segments.specs.LifetimeLaws.{by_item_order, earlier_order};
 
@@ -90,7 +90,7 @@ pub(crate) fn place_of<O: Order>(items: &Tree<O::Item>, item: &O::Item) -> u32
 pub(crate) fn put<O: Order>(items: &mut Tree<O::Item>, item: O::Item) -> Result<(), NoMemory>
     requires ordered { AreInOrder O.stands_before items.old }
     requires room { length items.old < 2 ^ 31 }
-    ensures ok { OnOk result (items.new ≡ put_in O.stands_before item items.old) }
+    ensures ok { OnOk result (items.new ≡ insert_by O.stands_before item items.old) }
     ensures err { OnErr result (items.new ≡ items.old) }
 {
     let place = place_of::<O>(items, &item);
@@ -120,7 +120,7 @@ pub(crate) fn is_beside(place: usize, next: usize) -> bool
 }
 
 /// Takes an item out that is there.
-pub(crate) fn take_out<O: Order>(items: &mut Tree<O::Item>, item: O::Item)
+pub(crate) fn remove_ordered<O: Order>(items: &mut Tree<O::Item>, item: O::Item)
     requires ordered { AreInOrder O.stands_before items.old }
     requires there { is_in O.stands_before item items.old ≡ true }
     ensures { items.new ≡ without O.stands_before item items.old }

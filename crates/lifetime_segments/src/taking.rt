@@ -4,7 +4,7 @@ ghost use Rattle.lifetime_segments.specs.Tries.{Changes, Holds, IsOf, IsOfNode, 
 
 use crate::life_list::take_life;
 use crate::lifetime::Lifetime;
-use crate::sorted::{Order, take_out};
+use crate::sorted::{Order, remove_ordered};
 use crate::trie::{Node, Trie};
 
 /// Takes the item of a lifetime out of the spans that make it up.
@@ -39,27 +39,27 @@ pub(crate) fn take_from_node<O: Order>(
     ensures { Changes (Some life) None (IsOfNode O.stands_before level node.old) (IsOfNode O.stands_before level node.new) }
 {
     if life.is_whole(level) {
-        take_out::<O>(&mut node.items, life.item);
+        remove_ordered::<O>(&mut node.items, life.item);
         return;
     }
     let first = life.in_first(level);
-    take_part::<O>(&mut node.left, level - 1, first);
-    take_part::<O>(&mut node.right, level - 1, life.in_second(level));
+    take_in_half::<O>(&mut node.left, level - 1, first);
+    take_in_half::<O>(&mut node.right, level - 1, life.in_second(level));
 }
 
 /// Takes out what of a lifetime lies in a half, if anything does.
 #[cycle(take)]
-pub(crate) fn take_part<O: Order>(
+pub(crate) fn take_in_half<O: Order>(
     half: &mut Trie<O::Item>,
     level: u32,
-    part: Option<Lifetime<O::Item>>,
+    clipped: Option<Lifetime<O::Item>>,
 )
     requires level { level ≤ 40 }
-    requires lies { IfSome part (Lies level) }
-    requires holds { Holds (IsOf O.stands_before level half.old) part }
-    ensures { Changes part None (IsOf O.stands_before level half.old) (IsOf O.stands_before level half.new) }
+    requires lies { IfSome clipped (Lies level) }
+    requires holds { Holds (IsOf O.stands_before level half.old) clipped }
+    ensures { Changes clipped None (IsOf O.stands_before level half.old) (IsOf O.stands_before level half.new) }
 {
-    match part {
+    match clipped {
         Some(life) => take::<O>(half, level, life),
         None => {}
     }

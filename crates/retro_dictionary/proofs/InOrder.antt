@@ -2,8 +2,8 @@
 use Rattle.std.proofs.Common.{◌≡◌, ℕ, ◌<◌, Bool, true, false, not, ◌&&◌, cond, List, [], ◌∷◌, refl, sym, ap, ◌∙◌, arith, inl, inr}
 use Rattle.std.specs.List.{count_by}
 use Rattle.std.proofs.lemmas.Bool.{cases_Bool}
-use Rattle.lifetime_segments.specs.Ordered.{IsOrder, put_in, in_order}
-use Rattle.lifetime_segments.specs.OrderedLaws.{put_in-swap}
+use Rattle.lifetime_segments.specs.Ordered.{IsOrder, insert_by, in_order}
+use Rattle.lifetime_segments.specs.OrderedLaws.{insert_by-swap}
 use Rattle.retro_dictionary.proofs.AsMany.{HaveSameItems, count-cons, same-refl, same-trans, same-cons, same-middle}
 
 counted_yes : (b : Bool) → b ≡ true → cond {A = ℕ} b 1 0 ≡ 1
@@ -30,13 +30,13 @@ module _ {A : Type 0} {before : A → A → Bool} (order : IsOrder before) where
   -- a list with one of its items at the front
   record HasOne (x : A) (ys : List A) : Type 0 where
     rest : List A
-    ordered : in_order before ys ≡ put_in before x (in_order before rest)
+    ordered : in_order before ys ≡ insert_by before x (in_order before rest)
     items : HaveSameItems ys (x ∷ rest)
 
   one_more : (x y : A) (ys : List A) → HasOne x ys → HasOne x (y ∷ ys)
   one_more x y ys one = record {
     rest = y ∷ one.rest;
-    ordered = ap (put_in before y) one.ordered ∙ put_in-swap order y x (in_order before one.rest);
+    ordered = ap (insert_by before y) one.ordered ∙ insert_by-swap order y x (in_order before one.rest);
     items = same-trans (y ∷ ys) (y ∷ x ∷ one.rest) (x ∷ y ∷ one.rest) (same-cons y ys (x ∷ one.rest) one.items) (same-middle (y ∷ []) x one.rest);
   }
 
@@ -62,4 +62,4 @@ module _ {A : Type 0} {before : A → A → Bool} (order : IsOrder before) where
   in_order-same (x ∷ xs) ys same =
       let there : 0 < count_by (is x) ys = omega (arith, same.as_many (is x), count-cons (is x) x xs, counted_yes (is x x) (is-itself x)) in
       let one = has_one x ys there in
-      ap (put_in before x) (in_order-same xs one.rest (rest_same x xs one.rest (same-trans (x ∷ xs) ys (x ∷ one.rest) same one.items))) ∙ sym one.ordered
+      ap (insert_by before x) (in_order-same xs one.rest (rest_same x xs one.rest (same-trans (x ∷ xs) ys (x ∷ one.rest) same one.items))) ∙ sym one.ordered

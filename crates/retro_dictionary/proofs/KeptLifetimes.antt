@@ -5,7 +5,7 @@ use Rattle.key_index.specs.KeyRows.{KeyRow, key_of}
 use Rattle.lifetime_segments.specs.declared.lifetime.Lifetime.{Lifetime}
 use Rattle.lifetime_segments.specs.Lifetimes.{lifetime, stands_earlier}
 use Rattle.lifetime_segments.specs.LifetimeLaws.{earlier_order}
-use Rattle.lifetime_segments.specs.OrderedLaws.{without-put_in, length-put_in, length-in_order}
+use Rattle.lifetime_segments.specs.OrderedLaws.{without-insert_by, length-insert_by, length-in_order}
 use Rattle.std.proofs.lemmas.List.{length-append}
 use Rattle.retro_dictionary.specs.PairSearch.{pair_before}
 use Rattle.retro_dictionary.specs.Changes.{Placed, placed_by, up_to_label}
@@ -29,7 +29,7 @@ put-ordered (Some placed) to xs = refl
 
 taken-ordered : (old : Option Placed) (to : ℕ) (xs : Lives) → all_taken (up_to_label old to) (ordered (up_to_label old to ++ xs)) ≡ ordered xs
 taken-ordered None to xs = refl
-taken-ordered (Some placed) to xs = without-put_in (earlier_order pair_order) _ (ordered xs)
+taken-ordered (Some placed) to xs = without-insert_by (earlier_order pair_order) _ (ordered xs)
 
 -- what a row begins, where the next row on its key is known
 pub begun-is : (row : KeyRow) (after : List KeyRow) (put : Option (ℤ × ℤ)) → put_by row.1 ≡ put → begun row.0 put after ≡ up_to_label (placed_at row.0 put) (end_of (key_of row.1) after)
@@ -106,11 +106,11 @@ module _ (front : List KeyRow) (row : KeyRow) (after : List KeyRow) where
 -- what was put in is taken out again
 pub taken-put : (placed : Option Placed) (to : ℕ) (xs : Lives) → all_taken (up_to_label placed to) (all_put (up_to_label placed to) xs) ≡ xs
 taken-put None to xs = refl
-taken-put (Some placed) to xs = without-put_in (earlier_order pair_order) _ xs
+taken-put (Some placed) to xs = without-insert_by (earlier_order pair_order) _ xs
 
 pub length-all_put : (placed : Option Placed) (to : ℕ) (xs : Lives) → length (all_put (up_to_label placed to) xs) ≤ length xs + 1
 length-all_put None to xs = omega arith
-length-all_put (Some placed) to xs = omega (arith, length-put_in (stands_earlier pair_before) (lifetime placed.0 to placed.1) xs)
+length-all_put (Some placed) to xs = omega (arith, length-insert_by (stands_earlier pair_before) (lifetime placed.0 to placed.1) xs)
 
 -- as many lifetimes as rows at most
 begun-le : (label : ℕ) (put : Option (ℤ × ℤ)) (rows : List KeyRow) → length (begun label put rows) ≤ 1

@@ -10,7 +10,7 @@ use Rattle.key_index.specs.KeyRows.{KeyRow, key_of, first_after, last_before}
 use Rattle.lifetime_segments.specs.declared.lifetime.Lifetime.{Lifetime}
 use Rattle.lifetime_segments.specs.Lifetimes.{label_end, stands_earlier}
 use Rattle.lifetime_segments.specs.Lawful.{most_items}
-use Rattle.lifetime_segments.specs.Ordered.{put_in, without}
+use Rattle.lifetime_segments.specs.Ordered.{insert_by, without}
 use Rattle.order_labels.specs.Labels.{label_limit, label_before, label_after as label_later}
 use Rattle.retro_dictionary.specs.Changes.{Placed, placed_by, up_to_label}
 use Rattle.retro_dictionary.specs.Lifetimes.{put_by}
@@ -28,7 +28,7 @@ placed_at label put = option_map (λ pair. (label, pair)) put
 
 abbrev pub all_put : List (Lifetime (ℤ × ℤ)) → List (Lifetime (ℤ × ℤ)) → List (Lifetime (ℤ × ℤ))
 all_put [] lifetimes = lifetimes
-all_put (new ∷ others) lifetimes = put_in (stands_earlier pair_before) new (all_put others lifetimes)
+all_put (new ∷ others) lifetimes = insert_by (stands_earlier pair_before) new (all_put others lifetimes)
 
 abbrev pub all_taken : List (Lifetime (ℤ × ℤ)) → List (Lifetime (ℤ × ℤ)) → List (Lifetime (ℤ × ℤ))
 all_taken [] lifetimes = lifetimes

@@ -7,9 +7,9 @@ use Rattle.std.specs.Int.{w128}
 use Rattle.std.proofs.lemmas.Int.{ints, int_wrap_fits, SFits-int_wrap, int_wrap-add_left, int_wrap-add_right}
 use Rattle.retro_base.specs.Answers.{pairs_between, sum_of_values, last_of}
 use Rattle.lifetime_segments.specs.Lawful.{AreLawful, RangeLaws, SearchLaws}
-use Rattle.lifetime_segments.specs.Ordered.{IsOrder, AreInOrder, put_in, in_order}
+use Rattle.lifetime_segments.specs.Ordered.{IsOrder, AreInOrder, insert_by, in_order}
 use Rattle.lifetime_segments.specs.LifetimeLaws.{IsOrderUpTo, order_as, tied_by, tied_order}
-use Rattle.lifetime_segments.specs.OrderedLaws.{in_order-ordered, not_before-chains, not_both, put_in-either}
+use Rattle.lifetime_segments.specs.OrderedLaws.{in_order-ordered, not_before-chains, not_both, insert_by-either}
 use Rattle.retro_dictionary.specs.declared.pairs.Found.{Found}
 use Rattle.retro_dictionary.specs.declared.pairs.KeyRange.{KeyRange}
 use Rattle.retro_dictionary.specs.PairSearch.{pair_before, found_of, found_in, lesser, greater, none_found, found_together, in_bits, stands_above, stands_below}
@@ -158,18 +158,18 @@ module _ (range : KeyRange) where
   gathered-append [] qs = sym (none-together (gathered qs) (gathered-held qs))
   gathered-append (p ∷ ps) qs = ap (found_together (found_in (p ∷ []) range)) (gathered-append ps qs) ∙ sym (together-regroup (found_in (p ∷ []) range) (gathered ps) (gathered qs))
 
-  gathered-put_in : (p : ℤ × ℤ) (qs : List (ℤ × ℤ)) → gathered (put_in pair_before p qs) ≡ gathered (p ∷ qs)
-  gathered-put_in p [] = refl
-  gathered-put_in p (q ∷ qs) =
+  gathered-insert_by : (p : ℤ × ℤ) (qs : List (ℤ × ℤ)) → gathered (insert_by pair_before p qs) ≡ gathered (p ∷ qs)
+  gathered-insert_by p [] = refl
+  gathered-insert_by p (q ∷ qs) =
       let one = found_in (p ∷ []) range in
       let other = found_in (q ∷ []) range in
-      put_in-either (λ ps. gathered ps ≡ gathered (p ∷ q ∷ qs)) pair_before p q qs
-      (ap (found_together other) (gathered-put_in p qs) ∙ sym (together-regroup other one (gathered qs)) ∙ ap (λ f. found_together f (gathered qs)) (together-swap other one) ∙ together-regroup one other (gathered qs))
+      insert_by-either (λ ps. gathered ps ≡ gathered (p ∷ q ∷ qs)) pair_before p q qs
+      (ap (found_together other) (gathered-insert_by p qs) ∙ sym (together-regroup other one (gathered qs)) ∙ ap (λ f. found_together f (gathered qs)) (together-swap other one) ∙ together-regroup one other (gathered qs))
       refl
 
   gathered-in_order : (ps : List (ℤ × ℤ)) → gathered (in_order pair_before ps) ≡ gathered ps
   gathered-in_order [] = refl
-  gathered-in_order (p ∷ ps) = gathered-put_in p (in_order pair_before ps) ∙ ap (found_together (found_in (p ∷ []) range)) (gathered-in_order ps)
+  gathered-in_order (p ∷ ps) = gathered-insert_by p (in_order pair_before ps) ∙ ap (found_together (found_in (p ∷ []) range)) (gathered-in_order ps)
 
   -- the first of pairs in their order
   values-from : (start : ℤ) (ps : List (ℤ × ℤ)) → fold (λ sum pair. sum +ℤ pair.1) start ps ≡ start +ℤ sum_of_values ps

@@ -5,8 +5,8 @@ use Rattle.std.proofs.lemmas.List.{drop_all}
 use Rattle.retro_base.specs.OrderLaws.{all_at}
 use Rattle.lifetime_segments.specs.Lawful.{most_items}
 use Rattle.lifetime_segments.specs.Lifetimes.{stands_by_item}
-use Rattle.lifetime_segments.specs.Ordered.{in_order, put_in}
-use Rattle.lifetime_segments.specs.Tries.{Changes, Edits, Has, IsOf, IsOfNode, Lies, first_part, taken, with}
+use Rattle.lifetime_segments.specs.Ordered.{in_order, insert_by}
+use Rattle.lifetime_segments.specs.Tries.{Changes, Edits, Has, IsOf, IsOfNode, Lies, in_first, taken, with}
 use Rattle.lifetime_segments.proofs.FewLives.{few_of, few_ordered, few_lie, few_length, drop_get}
 use Rattle.lifetime_segments.proofs.Moved.{node_of_few}
 use Rattle.lifetime_segments.proofs.Nodes.{bare_of, edits_through, leads_by, left_has, node_changes, node_few, node_has, node_ordered, node_with_whole, right_has, trie_of}
@@ -36,7 +36,7 @@ add-returns-then-len-lt-FEW g t c =
     edits_by None (Some c.args.life) (IsOf before c.args.level c.args.trie.now) (λ lives. AllByRecursion (Lies c.args.level) lives × (c.put_life.new.few ≡ in_order (stands_by_item before) lives)) c.put_life.result
     (λ put lives is_of.
     let kept = few_of before c.args.level lives c.in-Few.few c.args.trie.now c.in-Few.is is_of in
-    ((c.requires.lies, kept.0), put ∙ ap (put_in (stands_by_item before) c.args.life) kept.1))
+    ((c.requires.lies, kept.0), put ∙ ap (insert_by (stands_by_item before) c.args.life) kept.1))
     (λ same lives is_of.
     let kept = few_of before c.args.level lives c.in-Few.few c.args.trie.now c.in-Few.is is_of in
     (kept.0, same ∙ kept.1))
@@ -113,37 +113,37 @@ add_to_node-returns-then-is_whole g t c =
     (λ same. node_changes g.O.Order.stands_before c.args.level None None c.args.node.now _ tt (λ others is. same ∙ is) (λ lives is_of. is_of) (λ lives is_of. is_of))
     c.put.ensures.ok c.put.ensures.err
 
-pub add_to_node-add_part-requires : goal.add_to_node-add_part-requires
-add_to_node-add_part-requires g t c κs within =
+pub add_to_node-add_in_half-requires : goal.add_to_node-add_in_half-requires
+add_to_node-add_in_half-requires g t c κs within =
     let before = g.O.Order.stands_before in
     let has : Has (IsOf before (c.args.level - 1) c.args.node.now.left) None = left_has before c.args.level c.args.node.now None c.requires.has in
     let deep : 0 < c.args.level = c.in_first-first.ensures.deep in
     search rules
 
-pub add_to_node-returns-in_err-add_part : goal.add_to_node-returns-in_err-add_part
-add_to_node-returns-in_err-add_part g t c = (
+pub add_to_node-returns-in_err-add_in_half : goal.add_to_node-returns-in_err-add_in_half
+add_to_node-returns-in_err-add_in_half g t c = (
   search rules,
   err_always c.from_residual.result
-      (node_changes g.O.Order.stands_before c.args.level None None c.args.node.now _ tt (λ others is. is) c.in_err-add_part.ensures.1 (λ lives is_of. is_of)),
+      (node_changes g.O.Order.stands_before c.args.level None None c.args.node.now _ tt (λ others is. is) c.in_err-add_in_half.ensures.1 (λ lives is_of. is_of)),
 )
 
-pub add_to_node-add_part-requires-2 : goal.add_to_node-add_part-requires-2
-add_to_node-add_part-requires-2 g t c κs within =
+pub add_to_node-add_in_half-requires-2 : goal.add_to_node-add_in_half-requires-2
+add_to_node-add_in_half-requires-2 g t c κs within =
     let before = g.O.Order.stands_before in
     let has : Has (IsOf before (c.args.level - 1) c.args.node.now.right) None = right_has before c.args.level c.args.node.now None c.requires.has in
     let deep : 0 < c.args.level = c.in_first-first.ensures.deep in
     search rules
 
-pub add_to_node-take_part-requires-clause-holds : goal.add_to_node-take_part-requires-clause-holds
-add_to_node-take_part-requires-clause-holds g t c =
-    let firsts = taken (first_part c.args.level) c.requires.has.holds.others in
-    record { others = firsts; is_of = c.in_ok-add_part.ensures.0 firsts c.requires.has.holds.is_of.left }
+pub add_to_node-take_in_half-requires-clause-holds : goal.add_to_node-take_in_half-requires-clause-holds
+add_to_node-take_in_half-requires-clause-holds g t c =
+    let firsts = taken (in_first c.args.level) c.requires.has.holds.others in
+    record { others = firsts; is_of = c.in_ok-add_in_half.ensures.0 firsts c.requires.has.holds.is_of.left }
 
 pub add_to_node-returns-in-Err : goal.add_to_node-returns-in-Err
 add_to_node-returns-in-Err g t c = (
   tt,
   node_changes g.O.Order.stands_before c.args.level None None c.args.node.now _ tt (λ others is. is)
-      (λ lives is_of. c.take_part.ensures lives (c.in_ok-add_part.ensures.0 lives is_of)) c.in-Err.ensures.1,
+      (λ lives is_of. c.take_in_half.ensures lives (c.in_ok-add_in_half.ensures.0 lives is_of)) c.in-Err.ensures.1,
 )
 
 pub add_to_node-returns : goal.add_to_node-returns
@@ -152,22 +152,22 @@ add_to_node-returns g t c =
     let below = c.args.level - 1 in (
       node_changes before c.args.level None (Some c.args.life) c.args.node.now _ c.requires.lies
           (λ others is. is ∙ sym (ap (λ o. in_order before (with o others)) (whole-none c.args.level c.args.life (sym c.is_whole.ensures ∙ c.if-is_whole.false))))
-          (subst (λ o. Changes None o (IsOf before below c.args.node.now.left) (IsOf before below c.add_part.new.half)) c.in_first-first.ensures.part c.in_ok-add_part.ensures.0)
-          (subst (λ o. Changes None o (IsOf before below c.args.node.now.right) (IsOf before below c.add_part-2.new.half)) c.in_second.ensures.part c.in_default.ensures.0),
+          (subst (λ o. Changes None o (IsOf before below c.args.node.now.left) (IsOf before below c.add_in_half.new.half)) c.in_first-first.ensures.clipped c.in_ok-add_in_half.ensures.0)
+          (subst (λ o. Changes None o (IsOf before below c.args.node.now.right) (IsOf before below c.add_in_half-2.new.half)) c.in_second.ensures.clipped c.in_default.ensures.0),
       tt,
     )
 
-pub add_part-add-requires : goal.add_part-add-requires
-add_part-add-requires g t c κs within =
+pub add_in_half-add-requires : goal.add_in_half-add-requires
+add_in_half-add-requires g t c κs within =
     let lies : Lies c.args.level c.in-Some.life = subst (λ o. IfSome o (Lies c.args.level)) c.in-Some.is c.requires.lies in
     search rules
 
-pub add_part-returns-in-Some : goal.add_part-returns-in-Some
-add_part-returns-in-Some g t c =
+pub add_in_half-returns-in-Some : goal.add_in_half-returns-in-Some
+add_in_half-returns-in-Some g t c =
     let before = g.O.Order.stands_before in
     subst (λ o. Edits None o (IsOf before c.args.level c.args.half.now) (IsOf before c.args.level c.add.new.trie) c.add.result) (sym c.in-Some.is) c.add.ensures
 
-pub add_part-returns-in-None : goal.add_part-returns-in-None
-add_part-returns-in-None g t c =
+pub add_in_half-returns-in-None : goal.add_in_half-returns-in-None
+add_in_half-returns-in-None g t c =
     let before = g.O.Order.stands_before in
     (subst (λ o. Changes None o (IsOf before c.args.level c.args.half.now) (IsOf before c.args.level c.args.half.now)) (sym c.in-None.is) (λ lives is_of. is_of), tt)

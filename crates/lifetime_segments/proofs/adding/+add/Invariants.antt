@@ -11,8 +11,8 @@ decreases-divided_with g l = 4 * l.level + 1
 abbrev pub decreases-add_to_node : goal.decreases-add_to_node
 decreases-add_to_node g l = 4 * l.level
 
-abbrev pub decreases-add_part : goal.decreases-add_part
-decreases-add_part g l = 4 * l.level + 3
+abbrev pub decreases-add_in_half : goal.decreases-add_in_half
+decreases-add_in_half g l = 4 * l.level + 3
 
 abbrev pub invariant-divided_with-loop-place : goal.invariant-divided_with-loop-place
 invariant-divided_with-loop-place g l = IsOfNode g.O.Order.stands_before l.level l.node.value (drop l.place l.few)

@@ -2,7 +2,7 @@ use Rattle.std.proofs.Common.{subst, sym, ap, ◌∙◌, arith}
 use Rattle.lifetime_segments.specs.Lifetimes.{stands_by_item}
 use Rattle.lifetime_segments.specs.LifetimeLaws.{by_item_order}
 use Rattle.lifetime_segments.specs.Ordered.{AreInOrder, is_in}
-use Rattle.lifetime_segments.specs.OrderedLaws.{put_in-ordered}
+use Rattle.lifetime_segments.specs.OrderedLaws.{insert_by-ordered}
 use Rattle.lifetime_segments.proofs.Held.{replaced_at, still_in}
 use Rattle.lifetime_segments.proofs.Places.{place-there}
 use Rattle.lifetime_segments.proofs.life_list.exchange_lives.Goals as goal
@@ -21,7 +21,7 @@ returns-then-is_beside-clause-ok g c =
 pub take_life-requires-clause-ordered : goal.take_life-requires-clause-ordered
 take_life-requires-clause-ordered g c =
     subst (AreInOrder (stands_by_item g.O.Order.stands_before)) (sym c.in_ok-put_life.ensures.ok)
-    (put_in-ordered (by_item_order g.met.O.Order.order) c.args.other c.args.few.now c.requires.ordered)
+    (insert_by-ordered (by_item_order g.met.O.Order.order) c.args.other c.args.few.now c.requires.ordered)
 
 pub take_life-requires-clause-there : goal.take_life-requires-clause-there
 take_life-requires-clause-there g c =

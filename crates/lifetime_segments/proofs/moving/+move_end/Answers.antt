@@ -4,8 +4,8 @@ use Rattle.std.specs.List.{AllByRecursion}
 use Rattle.lifetime_segments.specs.declared.lifetime.Lifetime.{Lifetime}
 use Rattle.lifetime_segments.specs.declared.trie.Node.{Node}
 use Rattle.lifetime_segments.specs.Lifetimes.{stands_by_item}
-use Rattle.lifetime_segments.specs.Ordered.{in_order, put_in, without}
-use Rattle.lifetime_segments.specs.Tries.{Changes, Has, Holds, IsOf, IsOfNode, Lies, ending, first_part, is_whole, second_part, seen_from, taken, with}
+use Rattle.lifetime_segments.specs.Ordered.{in_order, insert_by, without}
+use Rattle.lifetime_segments.specs.Tries.{Changes, Has, Holds, IsOf, IsOfNode, Lies, ending, in_first, is_whole, in_second, seen_from, taken, with}
 use Rattle.lifetime_segments.proofs.FewLives.{few_of, few_ordered, few_there, few_moved}
 use Rattle.lifetime_segments.proofs.Moved.{node_swapped}
 use Rattle.lifetime_segments.proofs.Nodes.{edits_through, leads_by, left_has, node_changes, node_has, right_has, right_holds}
@@ -43,7 +43,7 @@ move_end-returns-in-Few g t c =
     let kept = few_of before c.args.level (c.args.life ∷ lives) c.in-Few.few c.args.trie.now c.in-Few.is is_of in (
       (c.requires.moved, kept.0.1),
       exchanged
-          ∙ ap (λ life. without by_item c.args.life (put_in by_item life c.in-Few.few)) c.ending.ensures
+          ∙ ap (λ life. without by_item c.args.life (insert_by by_item life c.in-Few.few)) c.ending.ensures
           ∙ few_moved g.met.O.Order.order c.args.life (ending c.args.next c.args.life) lives c.in-Few.few kept.1,
     ))
     (λ same lives is_of.
@@ -76,20 +76,20 @@ move_in_node-returns-then-is_whole g t c =
       tt,
     )
 
--- the first part of a lifetime, where both ends are known
+-- what of a lifetime lies in the first half, where both ends are known
 module _ {A : Type 0} (level : ℕ) (life : Lifetime A) (broken : is_whole level life ≡ false) where
-  first_all : life.from < 2 ^ (level - 1) → life.to ≤ 2 ^ (level - 1) → first_part level life ≡ Some life
+  first_all : life.from < 2 ^ (level - 1) → life.to ≤ 2 ^ (level - 1) → in_first level life ≡ Some life
   first_all begins ends =
       let all : min life.to (2 ^ (level - 1)) ≡ life.to = omega arith in
       first-is level life broken begins ∙ ap (λ n. Some (ending n life)) all
 
-  first_cut : life.from < 2 ^ (level - 1) → 2 ^ (level - 1) ≤ life.to → first_part level life ≡ Some (ending (2 ^ (level - 1)) life)
-  first_cut begins ends =
+  first_clipped : life.from < 2 ^ (level - 1) → 2 ^ (level - 1) ≤ life.to → in_first level life ≡ Some (ending (2 ^ (level - 1)) life)
+  first_clipped begins ends =
       let all : min life.to (2 ^ (level - 1)) ≡ 2 ^ (level - 1) = omega arith in
       first-is level life broken begins ∙ ap (λ n. Some (ending n life)) all
 
   -- where both ends lie past the first half, it is the same with either
-  first_past : (next : ℕ) → is_whole level (ending next life) ≡ false → 2 ^ (level - 1) ≤ life.to → 2 ^ (level - 1) ≤ next → first_part level life ≡ first_part level (ending next life)
+  first_past : (next : ℕ) → is_whole level (ending next life) ≡ false → 2 ^ (level - 1) ≤ life.to → 2 ^ (level - 1) ≤ next → in_first level life ≡ in_first level (ending next life)
   first_past next broken_next ends next_ends =
       let same : min life.to (2 ^ (level - 1)) ≡ min next (2 ^ (level - 1)) = omega arith in
       first-at level life false broken
@@ -101,44 +101,44 @@ move_in_halves-move_end-requires g t c κs within =
     let before = g.O.Order.stands_before in
     let below = c.args.level - 1 in
     let Left = IsOf before below c.args.node.now.left in
-    let cut : c.min.result ≡ min c.args.life.to (2 ^ below) = omega arith in
-    let is : c.ending-first.result ≡ ending (min c.args.life.to (2 ^ below)) c.args.life = c.ending-first.ensures ∙ ap (λ n. ending n c.args.life) cut in
+    let clipped : c.min.result ≡ min c.args.life.to (2 ^ below) = omega arith in
+    let is : c.ending-first.result ≡ ending (min c.args.life.to (2 ^ below)) c.args.life = c.ending-first.ensures ∙ ap (λ n. ending n c.args.life) clipped in
     let lies : Lies below c.ending-first.result = subst (Lies below) (sym is) (record { rises = omega (arith, c.requires.lies.rises, c.requires.moved.rises); within = omega arith }) in
     let moved : Lies below (ending c.args.next c.ending-first.result) = subst (λ life. Lies below (ending c.args.next life)) (sym is) (record { rises = c.requires.moved.rises; within = omega arith }) in
     let has : Has Left (Some c.ending-first.result) = subst (Has Left) (first-is c.args.level c.args.life c.requires.broken (omega (arith, c.requires.moved.rises)) ∙ ap (λ life. Some life) (sym is))
     (left_has before c.args.level c.args.node.now (Some c.args.life) c.requires.has) in
     search rules
 
-pub move_in_halves-take_part-requires-clause-holds : goal.move_in_halves-take_part-requires-clause-holds
-move_in_halves-take_part-requires-clause-holds g t c =
-    subst (Holds (IsOf g.O.Order.stands_before (c.args.level - 1) c.args.node.now.right)) (sym c.in_second.ensures.part) (right_holds g.O.Order.stands_before c.args.level c.args.node.now (Some c.args.life) c.requires.has.holds)
+pub move_in_halves-take_in_half-requires-clause-holds : goal.move_in_halves-take_in_half-requires-clause-holds
+move_in_halves-take_in_half-requires-clause-holds g t c =
+    subst (Holds (IsOf g.O.Order.stands_before (c.args.level - 1) c.args.node.now.right)) (sym c.in_second.ensures.clipped) (right_holds g.O.Order.stands_before c.args.level c.args.node.now (Some c.args.life) c.requires.has.holds)
 
 -- a node that changes in its halves alone
 module _ {A M : Type 0} (before : A → A → Bool) (level next : ℕ) (life : Lifetime A) (node new : Node A M) (broken : is_whole level life ≡ false) (broken_next : is_whole level (ending next life) ≡ false)
     (moved : Lies level (ending next life)) (items : new.items ≡ node.items) where
-  halves_moved : (gone come other_gone other_come : Option (Lifetime A)) → gone ≡ first_part level life → come ≡ first_part level (ending next life) → other_gone ≡ second_part level life → other_come ≡ second_part level (ending next life)
+  halves_moved : (gone come other_gone other_come : Option (Lifetime A)) → gone ≡ in_first level life → come ≡ in_first level (ending next life) → other_gone ≡ in_second level life → other_come ≡ in_second level (ending next life)
       → Changes gone come (IsOf before (level - 1) node.left) (IsOf before (level - 1) new.left) → Changes other_gone other_come (IsOf before (level - 1) node.right) (IsOf before (level - 1) new.right)
       → Changes (Some life) (Some (ending next life)) (IsOfNode before level node) (IsOfNode before level new)
   halves_moved gone come other_gone other_come is_gone is_come is_other_gone is_other_come left right =
       node_changes before level (Some life) (Some (ending next life)) node new moved
       (λ others is. items ∙ is ∙ ap (λ o. in_order before (with o others)) (whole-none level life broken ∙ sym (whole-none level (ending next life) broken_next)))
-      (changes_at gone come (first_part level life) (first_part level (ending next life)) (IsOf before (level - 1) node.left) (IsOf before (level - 1) new.left) is_gone is_come left)
-      (changes_at other_gone other_come (second_part level life) (second_part level (ending next life)) (IsOf before (level - 1) node.right) (IsOf before (level - 1) new.right) is_other_gone is_other_come right)
+      (changes_at gone come (in_first level life) (in_first level (ending next life)) (IsOf before (level - 1) node.left) (IsOf before (level - 1) new.left) is_gone is_come left)
+      (changes_at other_gone other_come (in_second level life) (in_second level (ending next life)) (IsOf before (level - 1) node.right) (IsOf before (level - 1) new.right) is_other_gone is_other_come right)
 
 pub move_in_halves-returns-then-next-half : goal.move_in_halves-returns-then-next-half
 move_in_halves-returns-then-next-half g t c =
     let next = c.args.next in
     let life = c.args.life in
     let below = c.args.level - 1 in
-    let cut : c.min.result ≡ min life.to (2 ^ below) = omega arith in
-    let is : c.ending-first.result ≡ ending (min life.to (2 ^ below)) life = c.ending-first.ensures ∙ ap (λ n. ending n life) cut in (
+    let clipped : c.min.result ≡ min life.to (2 ^ below) = omega arith in
+    let is : c.ending-first.result ≡ ending (min life.to (2 ^ below)) life = c.ending-first.ensures ∙ ap (λ n. ending n life) clipped in (
       halves_moved g.O.Order.stands_before c.args.level next life c.args.node.now _ c.requires.broken c.requires.broken_next c.requires.moved refl
           (Some c.ending-first.result) (Some (ending next c.ending-first.result)) c.in_second.result None
           (ap (λ l. Some l) is ∙ sym (first-is c.args.level life c.requires.broken (omega (arith, c.requires.moved.rises))))
           (ap (λ l. Some (ending next l)) is ∙ sym (first_all c.args.level (ending next life) c.requires.broken_next (omega (arith, c.requires.moved.rises)) (omega arith)))
-          c.in_second.ensures.part
+          c.in_second.ensures.clipped
           (sym (second-none c.args.level (ending next life) c.requires.broken_next (omega arith)))
-          c.in_ok-move_end.ensures.0 c.take_part.ensures,
+          c.in_ok-move_end.ensures.0 c.take_in_half.ensures,
       tt,
     )
 
@@ -165,7 +165,7 @@ move_in_halves-returns-then-half-life g t c =
     let is : c.seen_from-second.result ≡ seen_from (2 ^ (c.args.level - 1)) life = c.seen_from-second.ensures ∙ ap (λ n. seen_from n life) c.labels-half.ensures in
     edits_by (Some life) (Some (ending next life)) (IsOfNode before c.args.level c.args.node.now) _ c.move_end-then-half-life.result
     (λ moves. halves_moved before c.args.level next life c.args.node.now _ c.requires.broken c.requires.broken_next c.requires.moved refl
-    (first_part c.args.level life) (first_part c.args.level life) (Some c.seen_from-second.result) (Some (ending (next - half) c.seen_from-second.result))
+    (in_first c.args.level life) (in_first c.args.level life) (Some c.seen_from-second.result) (Some (ending (next - half) c.seen_from-second.result))
     refl (first_past c.args.level life c.requires.broken next c.requires.broken_next (omega arith) (omega arith))
     (ap (λ l. Some l) is ∙ sym (second-is c.args.level life c.requires.broken (omega arith)))
     (ap (λ l. Some (ending (next - half) l)) is ∙ ap (λ n. Some (ending (next - n) (seen_from (2 ^ (c.args.level - 1)) life))) c.labels-half.ensures ∙ sym (second-is c.args.level (ending next life) c.requires.broken_next (omega arith)))
@@ -203,7 +203,7 @@ move_in_halves-take-requires-clause-lies g t c =
 
 pub move_in_halves-take-requires-clause-holds : goal.move_in_halves-take-requires-clause-holds
 move_in_halves-take-requires-clause-holds g t c =
-    let seconds = taken (second_part c.args.level) (c.args.life ∷ c.requires.has.holds.others) in
+    let seconds = taken (in_second c.args.level) (c.args.life ∷ c.requires.has.holds.others) in
     record { others = seconds; is_of = c.in_ok-add.ensures.0 seconds c.requires.has.holds.is_of.right }
 
 pub move_in_halves-returns-in-Err : goal.move_in_halves-returns-in-Err
@@ -222,7 +222,7 @@ move_in_halves-returns g t c =
       halves_moved g.O.Order.stands_before c.args.level next life c.args.node.now _ c.requires.broken c.requires.broken_next c.requires.moved refl
           (Some life) (Some (ending half life)) None (Some c.seen_from-entered.result)
           (sym (first_all c.args.level life c.requires.broken (omega (arith, c.requires.lies.rises)) (omega arith)))
-          (ap (λ n. Some (ending n life)) c.labels-half.ensures ∙ sym (first_cut c.args.level (ending next life) c.requires.broken_next (omega (arith, c.requires.lies.rises)) (omega arith)))
+          (ap (λ n. Some (ending n life)) c.labels-half.ensures ∙ sym (first_clipped c.args.level (ending next life) c.requires.broken_next (omega (arith, c.requires.lies.rises)) (omega arith)))
           (sym (second-none c.args.level life c.requires.broken (omega arith)))
           (ap (λ l. Some l) is ∙ sym (second-is c.args.level (ending next life) c.requires.broken_next (omega arith)))
           c.in_default.ensures.0 c.in_ok-add.ensures.0,

@@ -3,7 +3,7 @@ use Rattle.std.proofs.lemmas.List.{nil_from_length}
 use Rattle.lifetime_segments.specs.Lifetimes.{items_at}
 use Rattle.lifetime_segments.specs.Ordered.{in_order}
 use Rattle.lifetime_segments.specs.OrderedLaws.{in_order-kept, in_order-ordered}
-use Rattle.lifetime_segments.specs.Tries.{Has, IsOf, IsOfNode, first_part, items_below, second_part, taken}
+use Rattle.lifetime_segments.specs.Tries.{Has, IsOf, IsOfNode, in_first, items_below, in_second, taken}
 use Rattle.lifetime_segments.proofs.Nodes.{leads_by, left_has, node_at, node_at_zero, node_few, node_has, node_lawful, node_of, node_ordered, right_has}
 use Rattle.lifetime_segments.proofs.Spans.{double, items_below-first, items_below-second}
 use Rattle.lifetime_segments.proofs.Taken.{length-taken}
@@ -108,13 +108,13 @@ ask_half-ask-requires-else-label-half g t c κs within =
 pub ask_half-returns-then-label-half : goal.ask_half-returns-then-label-half
 ask_half-returns-then-label-half g t c lives is_of few =
     let before = g.D.Decomposable.stands_before in
-    c.ask.ensures (taken (first_part c.args.level) lives) is_of.left (omega (arith, length-taken (first_part c.args.level) lives))
+    c.ask.ensures (taken (in_first c.args.level) lives) is_of.left (omega (arith, length-taken (in_first c.args.level) lives))
     ∙ ap (λ items. g.D.Decomposable.answer (in_order before items) c.args.query) (items_below-first c.args.level c.args.label lives (omega arith))
 
 pub ask_half-returns-else-label-half : goal.ask_half-returns-else-label-half
 ask_half-returns-else-label-half g t c lives is_of few =
     let before = g.D.Decomposable.stands_before in
-    let seconds = taken (second_part c.args.level) lives in
-    c.ask-else-label-half.ensures seconds is_of.right (omega (arith, length-taken (second_part c.args.level) lives))
+    let seconds = taken (in_second c.args.level) lives in
+    c.ask-else-label-half.ensures seconds is_of.right (omega (arith, length-taken (in_second c.args.level) lives))
     ∙ ap (λ items. g.D.Decomposable.answer (in_order before items) c.args.query)
     (ap (λ half. items_at (c.args.label - half) seconds) c.labels-half.ensures ∙ items_below-second c.args.level c.args.label lives (omega arith))

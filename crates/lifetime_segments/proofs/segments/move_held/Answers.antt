@@ -1,8 +1,8 @@
 use Rattle.std.proofs.Common.{subst, sym, ap, ◌∙◌}
 use Rattle.lifetime_segments.specs.Lifetimes.{stands_earlier}
 use Rattle.lifetime_segments.specs.LifetimeLaws.{earlier_order}
-use Rattle.lifetime_segments.specs.Ordered.{AreInOrder, put_in, is_in, without}
-use Rattle.lifetime_segments.specs.OrderedLaws.{put_in-ordered, is_in-put_in}
+use Rattle.lifetime_segments.specs.Ordered.{AreInOrder, insert_by, is_in, without}
+use Rattle.lifetime_segments.specs.OrderedLaws.{insert_by-ordered, is_in-insert_by}
 use Rattle.lifetime_segments.specs.Tries.{AreHeld, ending}
 use Rattle.lifetime_segments.proofs.Held.{held_back, held_one, held_lies, held_moved, replaced_at, still_in, taken_back}
 use Rattle.lifetime_segments.proofs.Places.{position-some, position-within}
@@ -28,7 +28,7 @@ returns-then-is_beside-clause-ok g c =
     c.replace.ensures.items
     ∙ replaced_at (earlier_order g.met.O.Order.order) c.args.life c.ending-moved.result c.args.held.now c.args.place c.place_of-moved_place.result c.requires.held.ordered some.0
     (sym some.1) c.place_of-moved_place.ensures (c.is_beside.ensures.before c.if-is_beside.true) (c.is_beside.ensures.after c.if-is_beside.true)
-    ∙ ap (λ moved. without earlier c.args.life (put_in earlier moved c.args.held.now)) c.ending-moved.ensures
+    ∙ ap (λ moved. without earlier c.args.life (insert_by earlier moved c.args.held.now)) c.ending-moved.ensures
 
 pub returns-then-is_beside-clause-held : goal.returns-then-is_beside-clause-held
 returns-then-is_beside-clause-held g c =
@@ -43,36 +43,36 @@ move_end-requires-2-clause-lies g c = held_lies g.met.O.Order.order c.args.life 
 pub move_end-requires-2-clause-has : goal.move_end-requires-2-clause-has
 move_end-requires-2-clause-has g c = held_one g.met.O.Order.order c.args.life c.args.held.now c.args.root.now c.requires.held (position-some (stands_earlier g.O.Order.stands_before) c.args.life c.args.held.now c.args.place c.requires.place).0
 
-pub take_out-requires-clause-ordered : goal.take_out-requires-clause-ordered
-take_out-requires-clause-ordered g c =
+pub remove_ordered-requires-clause-ordered : goal.remove_ordered-requires-clause-ordered
+remove_ordered-requires-clause-ordered g c =
     subst (AreInOrder (stands_earlier g.O.Order.stands_before)) (sym c.in_ok-put.ensures.ok)
-    (put_in-ordered (earlier_order g.met.O.Order.order) c.ending-moved.result c.args.held.now c.requires.held.ordered)
+    (insert_by-ordered (earlier_order g.met.O.Order.order) c.ending-moved.result c.args.held.now c.requires.held.ordered)
 
-pub take_out-requires-clause-there : goal.take_out-requires-clause-there
-take_out-requires-clause-there g c =
-    ap (is_in (stands_earlier g.O.Order.stands_before) c.ending-moved.result) c.in_ok-put.ensures.ok ∙ is_in-put_in (earlier_order g.met.O.Order.order) c.ending-moved.result c.args.held.now
+pub remove_ordered-requires-clause-there : goal.remove_ordered-requires-clause-there
+remove_ordered-requires-clause-there g c =
+    ap (is_in (stands_earlier g.O.Order.stands_before) c.ending-moved.result) c.in_ok-put.ensures.ok ∙ is_in-insert_by (earlier_order g.met.O.Order.order) c.ending-moved.result c.args.held.now
 
 pub returns-in-Err-clause-held : goal.returns-in-Err-clause-held
 returns-in-Err-clause-held g c =
-    held_back g.met.O.Order.order c.ending-moved.result c.args.held.now c.put.new.items c.take_out.new.items c.args.root.now c.move_end-2.new.trie c.in_ok-put.ensures.ok c.take_out.ensures c.requires.held c.in-Err.ensures.1
+    held_back g.met.O.Order.order c.ending-moved.result c.args.held.now c.put.new.items c.remove_ordered.new.items c.args.root.now c.move_end-2.new.trie c.in_ok-put.ensures.ok c.remove_ordered.ensures c.requires.held c.in-Err.ensures.1
 
 pub returns-in-Err-clause-err : goal.returns-in-Err-clause-err
-returns-in-Err-clause-err g c = taken_back g.met.O.Order.order c.ending-moved.result c.args.held.now c.put.new.items c.take_out.new.items c.in_ok-put.ensures.ok c.take_out.ensures
+returns-in-Err-clause-err g c = taken_back g.met.O.Order.order c.ending-moved.result c.args.held.now c.put.new.items c.remove_ordered.new.items c.in_ok-put.ensures.ok c.remove_ordered.ensures
 
-pub take_out-requires-2-clause-ordered : goal.take_out-requires-2-clause-ordered
-take_out-requires-2-clause-ordered g c =
+pub remove_ordered-requires-2-clause-ordered : goal.remove_ordered-requires-2-clause-ordered
+remove_ordered-requires-2-clause-ordered g c =
     subst (AreInOrder (stands_earlier g.O.Order.stands_before)) (sym c.in_ok-put.ensures.ok)
-    (put_in-ordered (earlier_order g.met.O.Order.order) c.ending-moved.result c.args.held.now c.requires.held.ordered)
+    (insert_by-ordered (earlier_order g.met.O.Order.order) c.ending-moved.result c.args.held.now c.requires.held.ordered)
 
-pub take_out-requires-2-clause-there : goal.take_out-requires-2-clause-there
-take_out-requires-2-clause-there g c =
+pub remove_ordered-requires-2-clause-there : goal.remove_ordered-requires-2-clause-there
+remove_ordered-requires-2-clause-there g c =
     ap (is_in (stands_earlier g.O.Order.stands_before) c.args.life) c.in_ok-put.ensures.ok
     ∙ still_in (earlier_order g.met.O.Order.order) c.args.life c.ending-moved.result c.args.held.now c.requires.held.ordered (position-some (stands_earlier g.O.Order.stands_before) c.args.life c.args.held.now c.args.place c.requires.place).0
 
 pub returns-clause-ok : goal.returns-clause-ok
 returns-clause-ok g c =
     let earlier = stands_earlier g.O.Order.stands_before in
-    c.take_out-2.ensures ∙ ap (without earlier c.args.life) (c.in_ok-put.ensures.ok ∙ ap (λ life. put_in earlier life c.args.held.now) c.ending-moved.ensures)
+    c.remove_ordered-2.ensures ∙ ap (without earlier c.args.life) (c.in_ok-put.ensures.ok ∙ ap (λ life. insert_by earlier life c.args.held.now) c.ending-moved.ensures)
 
 pub returns-clause-held : goal.returns-clause-held
 returns-clause-held g c =

@@ -42,30 +42,30 @@ take-returns-else-is_bare g t c lives is_of =
     let some = some_where before c.args.level lives c.take_from_node.new.node (λ bare. c.is_bare.ensures.some c.if-is_bare.false (subst IsBare (sym c.deref.ensures) bare)) after in
     divided_of before c.args.level c.take_from_node.new.node lives some after
 
-pub take_from_node-take_out-requires-clause-ordered : goal.take_from_node-take_out-requires-clause-ordered
-take_from_node-take_out-requires-clause-ordered g t c = node_ordered g.met.O.Order.order c.args.level (c.args.life ∷ c.requires.holds.others) c.args.node.now c.requires.holds.is_of
+pub take_from_node-remove_ordered-requires-clause-ordered : goal.take_from_node-remove_ordered-requires-clause-ordered
+take_from_node-remove_ordered-requires-clause-ordered g t c = node_ordered g.met.O.Order.order c.args.level (c.args.life ∷ c.requires.holds.others) c.args.node.now c.requires.holds.is_of
 
-pub take_from_node-take_out-requires-clause-there : goal.take_from_node-take_out-requires-clause-there
-take_from_node-take_out-requires-clause-there g t c =
+pub take_from_node-remove_ordered-requires-clause-there : goal.take_from_node-remove_ordered-requires-clause-there
+take_from_node-remove_ordered-requires-clause-there g t c =
     node_is_in g.met.O.Order.order c.args.level c.args.life c.requires.holds.others c.args.node.now (sym c.is_whole.ensures ∙ c.if-is_whole.true) c.requires.holds.is_of
 
 pub take_from_node-returns-then-is_whole : goal.take_from_node-returns-then-is_whole
 take_from_node-returns-then-is_whole g t c =
-    node_without_whole g.met.O.Order.order c.args.level c.args.life c.args.node.now _ (sym c.is_whole.ensures ∙ c.if-is_whole.true) c.take_out.ensures refl refl
+    node_without_whole g.met.O.Order.order c.args.level c.args.life c.args.node.now _ (sym c.is_whole.ensures ∙ c.if-is_whole.true) c.remove_ordered.ensures refl refl
 
-pub take_from_node-take_part-requires : goal.take_from_node-take_part-requires
-take_from_node-take_part-requires g t c κs within =
+pub take_from_node-take_in_half-requires : goal.take_from_node-take_in_half-requires
+take_from_node-take_in_half-requires g t c κs within =
     let before = g.O.Order.stands_before in
     let holds : Holds (IsOf before (c.args.level - 1) c.args.node.now.left) c.in_first-first.result =
-    subst (Holds (IsOf before (c.args.level - 1) c.args.node.now.left)) (sym c.in_first-first.ensures.part) (left_holds before c.args.level c.args.node.now (Some c.args.life) c.requires.holds) in
+    subst (Holds (IsOf before (c.args.level - 1) c.args.node.now.left)) (sym c.in_first-first.ensures.clipped) (left_holds before c.args.level c.args.node.now (Some c.args.life) c.requires.holds) in
     let deep : 0 < c.args.level = c.in_first-first.ensures.deep in
     search rules
 
-pub take_from_node-take_part-requires-2 : goal.take_from_node-take_part-requires-2
-take_from_node-take_part-requires-2 g t c κs within =
+pub take_from_node-take_in_half-requires-2 : goal.take_from_node-take_in_half-requires-2
+take_from_node-take_in_half-requires-2 g t c κs within =
     let before = g.O.Order.stands_before in
     let holds : Holds (IsOf before (c.args.level - 1) c.args.node.now.right) c.in_second.result =
-    subst (Holds (IsOf before (c.args.level - 1) c.args.node.now.right)) (sym c.in_second.ensures.part) (right_holds before c.args.level c.args.node.now (Some c.args.life) c.requires.holds) in
+    subst (Holds (IsOf before (c.args.level - 1) c.args.node.now.right)) (sym c.in_second.ensures.clipped) (right_holds before c.args.level c.args.node.now (Some c.args.life) c.requires.holds) in
     let deep : 0 < c.args.level = c.in_first-first.ensures.deep in
     search rules
 
@@ -75,22 +75,22 @@ take_from_node-returns g t c =
     let below = c.args.level - 1 in
     node_changes before c.args.level (Some c.args.life) None c.args.node.now _ tt
     (λ others is. is ∙ ap (λ o. in_order before (with o others)) (whole-none c.args.level c.args.life (sym c.is_whole.ensures ∙ c.if-is_whole.false)))
-    (subst (λ o. Changes o None (IsOf before below c.args.node.now.left) (IsOf before below c.take_part.new.half)) c.in_first-first.ensures.part c.take_part.ensures)
-    (subst (λ o. Changes o None (IsOf before below c.args.node.now.right) (IsOf before below c.take_part-2.new.half)) c.in_second.ensures.part c.take_part-2.ensures)
+    (subst (λ o. Changes o None (IsOf before below c.args.node.now.left) (IsOf before below c.take_in_half.new.half)) c.in_first-first.ensures.clipped c.take_in_half.ensures)
+    (subst (λ o. Changes o None (IsOf before below c.args.node.now.right) (IsOf before below c.take_in_half-2.new.half)) c.in_second.ensures.clipped c.take_in_half-2.ensures)
 
-pub take_part-take-requires : goal.take_part-take-requires
-take_part-take-requires g t c κs within =
+pub take_in_half-take-requires : goal.take_in_half-take-requires
+take_in_half-take-requires g t c κs within =
     let before = g.O.Order.stands_before in
     let lies : Lies c.args.level c.in-Some.life = subst (λ o. IfSome o (Lies c.args.level)) c.in-Some.is c.requires.lies in
     let holds : Holds (IsOf before c.args.level c.args.half.now) (Some c.in-Some.life) = subst (Holds (IsOf before c.args.level c.args.half.now)) c.in-Some.is c.requires.holds in
     search rules
 
-pub take_part-returns-in-Some : goal.take_part-returns-in-Some
-take_part-returns-in-Some g t c =
+pub take_in_half-returns-in-Some : goal.take_in_half-returns-in-Some
+take_in_half-returns-in-Some g t c =
     let before = g.O.Order.stands_before in
     subst (λ o. Changes o None (IsOf before c.args.level c.args.half.now) (IsOf before c.args.level c.take.new.trie)) (sym c.in-Some.is) c.take.ensures
 
-pub take_part-returns-in-None : goal.take_part-returns-in-None
-take_part-returns-in-None g t c =
+pub take_in_half-returns-in-None : goal.take_in_half-returns-in-None
+take_in_half-returns-in-None g t c =
     let before = g.O.Order.stands_before in
     subst (λ o. Changes o None (IsOf before c.args.level c.args.half.now) (IsOf before c.args.level c.args.half.now)) (sym c.in-None.is) (λ lives is_of. is_of)

@@ -7,5 +7,5 @@ decreases-take g l = 3 * l.level + 2
 abbrev pub decreases-take_from_node : goal.decreases-take_from_node
 decreases-take_from_node g l = 3 * l.level + 1
 
-abbrev pub decreases-take_part : goal.decreases-take_part
-decreases-take_part g l = 3 * l.level + 3
+abbrev pub decreases-take_in_half : goal.decreases-take_in_half
+decreases-take_in_half g l = 3 * l.level + 3

@@ -1,7 +1,7 @@
 use Rattle.std.proofs.Common.{ap, ◌∙◌, arith}
 use Rattle.std.specs.List.{remove}
 use Rattle.lifetime_segments.proofs.Places.{place-there, remove-place}
-use Rattle.lifetime_segments.proofs.sorted.take_out.Goals as goal
+use Rattle.lifetime_segments.proofs.sorted.remove_ordered.Goals as goal
 
 pub remove-requires : goal.remove-requires
 remove-requires g c =
