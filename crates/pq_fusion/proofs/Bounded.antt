@@ -131,7 +131,7 @@ above_low Top Low some above = absurd (cc)
 above_low Top (At b) some above = refl
 above_low Top Top some above = refl
 
--- of three, where the first is no greater than the second: cut to what lies between them
+-- of three, where the first is no greater than the second: clamped to what lies between them
 module _ (own x t : Bound) (order : is_below x own ≡ false) where
   pub between : ((higher own (lower x t) ≡ x) × (higher own t ≡ higher x t)) ⊎ ((higher own (lower x t) ≡ higher own t) × (higher x t ≡ x))
   between = elim (is_below t x) as (λ b. is_below t x ≡ b → ((higher own (lower x t) ≡ x) × (higher own t ≡ higher x t)) ⊎ ((higher own (lower x t) ≡ higher own t) × (higher x t ≡ x))) [
@@ -140,16 +140,16 @@ module _ (own x t : Bound) (order : is_below x own ≡ false) where
         inl (ap (higher own) (lower_first x t after) ∙ higher_second own x order, higher_second own t (further own x t order after) ∙ sym (higher_second x t after))
   ] refl
 
-  pub either_cut : higher own (lower x t) ≡ lower x (higher own t)
-  either_cut = elim (is_below t x) as (λ b. is_below t x ≡ b → higher own (lower x t) ≡ lower x (higher own t)) [
-    | true ↦ λ before. ap (higher own) (lower_second x t (one_way t x before)) ∙ sym (lower_second x (higher own t) (cut_above (one_way t x before)))
+  pub either_clamped : higher own (lower x t) ≡ lower x (higher own t)
+  either_clamped = elim (is_below t x) as (λ b. is_below t x ≡ b → higher own (lower x t) ≡ lower x (higher own t)) [
+    | true ↦ λ before. ap (higher own) (lower_second x t (one_way t x before)) ∙ sym (lower_second x (higher own t) (clamped_above (one_way t x before)))
     | false ↦ λ after.
         ap (higher own) (lower_first x t after) ∙ higher_second own x order
         ∙ sym (ap (lower x) (higher_second own t (further own x t order after)) ∙ lower_first x t after)
   ] refl
     where
-      cut_above : is_below x t ≡ false → is_below x (higher own t) ≡ false
-      cut_above below = elim (is_below own t) as (λ b. is_below x (cond b t own) ≡ false) [ true ↦ below | false ↦ order ]
+      clamped_above : is_below x t ≡ false → is_below x (higher own t) ≡ false
+      clamped_above below = elim (is_below own t) as (λ b. is_below x (cond b t own) ≡ false) [ true ↦ below | false ↦ order ]
 
 -- a list takes two in either order
 pub bound_either : (a b : Bound) (xs : List Entry) → with_bound a (with_bound b xs) ≡ with_bound b (with_bound a xs)

@@ -23,7 +23,7 @@ use Rattle.pq_fusion.proofs.Bounded.{not_itself}
 use Rattle.pq_fusion.proofs.Compared.{besides_is}
 use Rattle.pq_fusion.proofs.FromRows.{tolerant_rise, rows_fuse}
 use Rattle.pq_fusion.proofs.Parts.{kind_at, there_within}
-use Rattle.pq_fusion.proofs.Passed.{alone_cut, earlier_after, earlier_passes, later_passes, passes_one}
+use Rattle.pq_fusion.proofs.Passed.{alone_clamped, earlier_after, earlier_passes, later_passes, passes_one}
 use Rattle.pq_fusion.proofs.RowByRow.{adding_last}
 use Rattle.pq_fusion.proofs.RowEdits.{after_first, after_second, within_first}
 
@@ -105,7 +105,7 @@ module _ (way : Way) (place : ℕ) (row : Row) where
             let there = adding_last later (place - length earlier) row e (omega (arith, place_is, length-append earlier later)) kind is in
             let left : (tolerant (insert later (place - length earlier) row)).left ≡ with_entry e (tolerant later).left = ap (λ (p : PieceParts). p.left) there in
             let x_is : x ≡ At e = sym (besides_is x (tolerant later).left _ passes.some passes.left) ∙ besides_is (At e) (tolerant later).left _ refl left in
-            let passed_is : higher (At e) (lower x c) ≡ At e = ap (λ b. higher (At e) (lower b c)) x_is ∙ alone_cut (At e) c in
+            let passed_is : higher (At e) (lower x c) ≡ At e = ap (λ b. higher (At e) (lower b c)) x_is ∙ alone_clamped (At e) c in
             subst (λ y. Apart (At e) y (tolerant (earlier ++ later)) (tolerant (insert (earlier ++ later) place row))) (sym passed_is)
             (subst (Apart (At e) (At e) (tolerant (earlier ++ later))) (sym (adding_last (earlier ++ later) place row e place_is kind is))
             (record { left = refl; removed = refl; unmet = omega arith; order = not_itself (At e); some = refl; no_top = refl }))

@@ -31,7 +31,7 @@ pub mod Paths
 pub mod Added
 pub mod Begun
 pub mod RowByRow
-pub mod Windowed
+pub mod Intervals
 pub mod Sought
 pub mod Turns
 pub mod Walked

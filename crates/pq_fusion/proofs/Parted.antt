@@ -99,7 +99,7 @@ take_with e (x ∷ xs) (suc (suc n)) order =
           ∙ sym (behind_first (last_with e xs (suc n)) x (take (suc n) (with_entry e xs)) (further (At x) (At e) (last_with e xs (suc n)) after (higher_above (At e) (at_rank xs n))))
     ] refl
 
--- what stands at the boundary tells the same before and after, cut by the entry
+-- what stands at the boundary tells the same before and after, clamped by the entry
 staying_with : (e : Entry) (xs : List Entry) (n : ℕ) → AreInOrder xs → higher (At e) (at_rank (with_entry e xs) n) ≡ last_with e xs n
 staying_with e [] zero order = higher_first (At e) (At e) (before_irreflexive e)
 staying_with e [] (suc n) order = refl

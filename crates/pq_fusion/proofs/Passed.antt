@@ -17,7 +17,7 @@ use Rattle.pq_fusion.proofs.Split.{order_front}
 use Rattle.pq_fusion.proofs.Fused.{parts, unit_after}
 use Rattle.pq_fusion.proofs.FromRows.{tolerant_rise, nothing_rises, rows_fuse, row_between}
 use Rattle.pq_fusion.proofs.Replays.{of_adding, of_taking}
-use Rattle.pq_fusion.proofs.Bounded.{further, higher_above, above_low, not_itself, between, either_cut, bound_either, bound_in_first, bound_in_second, order_bound, entries_in, lows, length_bound, cancel, exchanged}
+use Rattle.pq_fusion.proofs.Bounded.{further, higher_above, above_low, not_itself, between, either_clamped, bound_either, bound_in_first, bound_in_second, order_bound, entries_in, lows, length_bound, cancel, exchanged}
 use Rattle.pq_fusion.proofs.Parted.{Enters, enters, taken_with}
 
 -- the fused piece by the takings of the second
@@ -122,7 +122,7 @@ pub record PassesIn (own x : Bound) (a p q : PieceParts) : Type 0 where
 order_take : (n : ℕ) (xs : List Entry) → AreInOrder xs → AreInOrder (take n xs)
 order_take n xs order = order_front (take n xs) (drop n xs) (subst AreInOrder (sym (take-append-drop n xs)) order)
 
--- of three cut to what lies between
+-- of three clamped to what lies between
 median_swap : (own x t : Bound) → is_below x own ≡ false → (xs : List Entry)
     → with_bound x (with_bound (higher own t) xs) ≡ with_bound (higher own (lower x t)) (with_bound (higher x t) xs)
 median_swap own x t order xs = elim (between own x t order) [
@@ -143,8 +143,8 @@ median_some own x t order some above = elim (between own x t order) [
   | inr w ↦ subst (λ b. is_below Low b ≡ true) (sym w.0) above
 ]
 
-pub alone_cut : (own c : Bound) → higher own (lower own c) ≡ own
-alone_cut own c = elim (between own own c (not_itself own)) [ inl w ↦ w.0 | inr w ↦ w.0 ∙ w.1 ]
+pub alone_clamped : (own c : Bound) → higher own (lower own c) ≡ own
+alone_clamped own c = elim (between own own c (not_itself own)) [ inl w ↦ w.0 | inr w ↦ w.0 ∙ w.1 ]
 
 module _ (own x : Bound) (p q : PieceParts) (apart : Apart own x p q) (a : PieceParts) where
   -- nothing but the edited entry itself changes hands
@@ -169,8 +169,8 @@ module _ (own x : Bound) (p q : PieceParts) (apart : Apart own x p q) (a : Piece
         some = subst (λ b. is_below Low b ≡ true) (sym one) apart.some;
         no_top = apart.no_top;
       };
-      before = ap (λ b. higher own (lower b (last_taken a p))) (sym one) ∙ alone_cut own (last_taken a p);
-      after = ap (λ b. higher own (lower b (first_staying a q))) (sym one) ∙ alone_cut own (first_staying a q);
+      before = ap (λ b. higher own (lower b (last_taken a p))) (sym one) ∙ alone_clamped own (last_taken a p);
+      after = ap (λ b. higher own (lower b (first_staying a q))) (sym one) ∙ alone_clamped own (first_staying a q);
     }
 
   -- either has the other's entry, beside the same others
@@ -246,8 +246,8 @@ module _ (own x : Bound) (p q : PieceParts) (apart : Apart own x p q) (a : Piece
             no_top = apart.no_top;
           };
           before = ap (λ m. higher own (lower x (last_of m (takings p)))) met_first ∙ ap (higher own) (taken_with x shared (takings p) shared_order);
-          after = ap (λ m. higher own (lower x (at_rank m (takings q)))) met_second ∙ either_cut own x (at_rank (with_bound own shared) (takings q)) apart.order
-              ∙ ap (lower x) own_enters.same ∙ sym (either_cut own x t apart.order);
+          after = ap (λ m. higher own (lower x (at_rank m (takings q)))) met_second ∙ either_clamped own x (at_rank (with_bound own shared) (takings q)) apart.order
+              ∙ ap (lower x) own_enters.same ∙ sym (either_clamped own x t apart.order);
         }
 
 pub later_passes : (own x : Bound) (a p q : PieceParts) → IsRising a → IsRising p → IsRising q → Apart own x p q → PassesIn own x a p q

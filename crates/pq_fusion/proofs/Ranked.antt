@@ -54,7 +54,7 @@ first_less x xs zero b some before = some
 first_less x xs (suc n) b some before = before
 
 -- the parts of both
-pub record AreCut (xs ys : List Entry) (i j : ℕ) : Type 0 where
+pub record AreSplit (xs ys : List Entry) (i j : ℕ) : Type 0 where
   pub first : i ≤ length xs
   pub second : j ≤ length ys
   pub lesser : is_below (at_rank ys j) (last_of xs i) ≡ false
@@ -79,35 +79,35 @@ none_second x y ys j least after before =
     let above : is_below (at_rank (y ∷ ys) j) (At x) ≡ false = further (At x) (At y) (at_rank (y ∷ ys) j) after (rank_in y ys j least) in
     let wrong : true ≡ false = sym before ∙ above in absurd (cc)
 
-pub rank_of_cut : (r : ℕ) (xs ys : List Entry) (i j : ℕ) → r ≡ i + j → AreInOrder xs → AreInOrder ys → AreCut xs ys i j
+pub rank_of_split : (r : ℕ) (xs ys : List Entry) (i j : ℕ) → r ≡ i + j → AreInOrder xs → AreInOrder ys → AreSplit xs ys i j
     → at_rank (together xs ys) r ≡ lower (at_rank xs i) (at_rank ys j)
-rank_of_cut zero xs ys zero zero sum first second parts = at_first xs ys first second
-rank_of_cut zero xs ys (suc i) j sum first second parts = absurd (omega (arith, sum))
-rank_of_cut zero xs ys zero (suc j) sum first second parts = absurd (omega (arith, sum))
-rank_of_cut (suc r) [] ys i j sum first second parts =
+rank_of_split zero xs ys zero zero sum first second parts = at_first xs ys first second
+rank_of_split zero xs ys (suc i) j sum first second parts = absurd (omega (arith, sum))
+rank_of_split zero xs ys zero (suc j) sum first second parts = absurd (omega (arith, sum))
+rank_of_split (suc r) [] ys i j sum first second parts =
     let same : suc r ≡ j = omega (arith, sum, parts.first) in
     ap (λ l. at_rank l (suc r)) (together_none ys) ∙ ap (at_rank ys) same ∙ sym (low_top (at_rank ys j))
-rank_of_cut (suc r) (x ∷ xs) [] i j sum first second parts =
+rank_of_split (suc r) (x ∷ xs) [] i j sum first second parts =
     let same : suc r ≡ i = omega (arith, sum, parts.second) in
     ap (λ l. at_rank l (suc r)) (together_alone (x ∷ xs) first) ∙ ap (at_rank (x ∷ xs)) same ∙ sym (lower_first (at_rank (x ∷ xs) i) Top refl)
-rank_of_cut (suc r) (x ∷ xs) (y ∷ ys) zero zero sum first second parts = absurd (omega (arith, sum))
-rank_of_cut (suc r) (x ∷ xs) (y ∷ ys) (suc i) zero sum first second parts =
+rank_of_split (suc r) (x ∷ xs) (y ∷ ys) zero zero sum first second parts = absurd (omega (arith, sum))
+rank_of_split (suc r) (x ∷ xs) (y ∷ ys) (suc i) zero sum first second parts =
     elim (comes_before y x) as (λ t. comes_before y x ≡ t → at_rank (together (x ∷ xs) (y ∷ ys)) (suc r) ≡ lower (at_rank xs i) (At y)) [
       | true ↦ λ before. absurd (none_first x y xs ys i first.0 before parts.lesser)
       | false ↦ λ after.
           ap (λ l. at_rank l (suc r)) (first_first x y xs ys first second after)
-          ∙ rank_of_cut r xs (y ∷ ys) i zero (omega (arith, sum)) first.1 second (record {
+          ∙ rank_of_split r xs (y ∷ ys) i zero (omega (arith, sum)) first.1 second (record {
             first = omega (arith, parts.first);
             second = parts.second;
             lesser = last_more x xs i (At y) parts.lesser;
             greater = parts.greater;
           })
     ] refl
-rank_of_cut (suc r) (x ∷ xs) (y ∷ ys) zero (suc j) sum first second parts =
+rank_of_split (suc r) (x ∷ xs) (y ∷ ys) zero (suc j) sum first second parts =
     elim (comes_before y x) as (λ t. comes_before y x ≡ t → at_rank (together (x ∷ xs) (y ∷ ys)) (suc r) ≡ lower (At x) (at_rank ys j)) [
       | true ↦ λ before.
           ap (λ l. at_rank l (suc r)) (second_first x y xs ys first second before)
-          ∙ rank_of_cut r (x ∷ xs) ys zero j (omega (arith, sum)) first second.1 (record {
+          ∙ rank_of_split r (x ∷ xs) ys zero j (omega (arith, sum)) first second.1 (record {
             first = parts.first;
             second = omega (arith, parts.second);
             lesser = parts.lesser;
@@ -115,11 +115,11 @@ rank_of_cut (suc r) (x ∷ xs) (y ∷ ys) zero (suc j) sum first second parts =
           })
       | false ↦ λ after. absurd (none_second x y ys j second.0 after parts.greater)
     ] refl
-rank_of_cut (suc r) (x ∷ xs) (y ∷ ys) (suc i) (suc j) sum first second parts =
+rank_of_split (suc r) (x ∷ xs) (y ∷ ys) (suc i) (suc j) sum first second parts =
     elim (comes_before y x) as (λ t. comes_before y x ≡ t → at_rank (together (x ∷ xs) (y ∷ ys)) (suc r) ≡ lower (at_rank xs i) (at_rank ys j)) [
       | true ↦ λ before.
           ap (λ l. at_rank l (suc r)) (second_first x y xs ys first second before)
-          ∙ rank_of_cut r (x ∷ xs) ys (suc i) j (omega (arith, sum)) first second.1 (record {
+          ∙ rank_of_split r (x ∷ xs) ys (suc i) j (omega (arith, sum)) first second.1 (record {
             first = parts.first;
             second = omega (arith, parts.second);
             lesser = parts.lesser;
@@ -127,7 +127,7 @@ rank_of_cut (suc r) (x ∷ xs) (y ∷ ys) (suc i) (suc j) sum first second parts
           })
       | false ↦ λ after.
           ap (λ l. at_rank l (suc r)) (first_first x y xs ys first second after)
-          ∙ rank_of_cut r xs (y ∷ ys) i (suc j) (omega (arith, sum)) first.1 second (record {
+          ∙ rank_of_split r xs (y ∷ ys) i (suc j) (omega (arith, sum)) first.1 second (record {
             first = omega (arith, parts.first);
             second = parts.second;
             lesser = last_more x xs i (at_rank ys j) parts.lesser;
@@ -167,36 +167,36 @@ take_in_second x y xs ys i j r first second before rest =
     ∙ sym (higher_joined (last_of (x ∷ xs) i) (At y) (last_of ys j))
     ∙ ap (higher (last_of (x ∷ xs) i)) (sym (more_last y ys j second.0))
 
-pub last_of_cut : (r : ℕ) (xs ys : List Entry) (i j : ℕ) → r ≡ i + j → AreInOrder xs → AreInOrder ys → AreCut xs ys i j
+pub last_of_split : (r : ℕ) (xs ys : List Entry) (i j : ℕ) → r ≡ i + j → AreInOrder xs → AreInOrder ys → AreSplit xs ys i j
     → last_of (together xs ys) r ≡ higher (last_of xs i) (last_of ys j)
-last_of_cut zero xs ys zero zero sum first second parts = refl
-last_of_cut zero xs ys (suc i) j sum first second parts = absurd (omega (arith, sum))
-last_of_cut zero xs ys zero (suc j) sum first second parts = absurd (omega (arith, sum))
-last_of_cut (suc r) [] ys zero j sum first second parts =
+last_of_split zero xs ys zero zero sum first second parts = refl
+last_of_split zero xs ys (suc i) j sum first second parts = absurd (omega (arith, sum))
+last_of_split zero xs ys zero (suc j) sum first second parts = absurd (omega (arith, sum))
+last_of_split (suc r) [] ys zero j sum first second parts =
     let same : suc r ≡ j = omega (arith, sum) in
     ap (λ l. last_of l (suc r)) (together_none ys) ∙ ap (last_of ys) same ∙ sym (higher_low (last_of ys j))
-last_of_cut (suc r) [] ys (suc i) j sum first second parts = absurd (omega (arith, parts.first))
-last_of_cut (suc r) (x ∷ xs) [] i zero sum first second parts =
+last_of_split (suc r) [] ys (suc i) j sum first second parts = absurd (omega (arith, parts.first))
+last_of_split (suc r) (x ∷ xs) [] i zero sum first second parts =
     let same : suc r ≡ i = omega (arith, sum) in
     ap (λ l. last_of l (suc r)) (together_alone (x ∷ xs) first) ∙ ap (last_of (x ∷ xs)) same
     ∙ sym (higher_first (last_of (x ∷ xs) i) Low (never_low (last_of (x ∷ xs) i)))
-last_of_cut (suc r) (x ∷ xs) [] i (suc j) sum first second parts = absurd (omega (arith, parts.second))
-last_of_cut (suc r) (x ∷ xs) (y ∷ ys) zero zero sum first second parts = absurd (omega (arith, sum))
-last_of_cut (suc r) (x ∷ xs) (y ∷ ys) (suc i) zero sum first second parts =
+last_of_split (suc r) (x ∷ xs) [] i (suc j) sum first second parts = absurd (omega (arith, parts.second))
+last_of_split (suc r) (x ∷ xs) (y ∷ ys) zero zero sum first second parts = absurd (omega (arith, sum))
+last_of_split (suc r) (x ∷ xs) (y ∷ ys) (suc i) zero sum first second parts =
     elim (comes_before y x) as (λ t. comes_before y x ≡ t → last_of (together (x ∷ xs) (y ∷ ys)) (suc r) ≡ higher (at_rank (x ∷ xs) i) Low) [
       | true ↦ λ before. absurd (none_first x y xs ys i first.0 before parts.lesser)
       | false ↦ λ after. take_in_first x y xs ys i zero r first second after
-          (last_of_cut r xs (y ∷ ys) i zero (omega (arith, sum)) first.1 second (record {
+          (last_of_split r xs (y ∷ ys) i zero (omega (arith, sum)) first.1 second (record {
             first = omega (arith, parts.first);
             second = parts.second;
             lesser = last_more x xs i (At y) parts.lesser;
             greater = parts.greater;
           }))
     ] refl
-last_of_cut (suc r) (x ∷ xs) (y ∷ ys) zero (suc j) sum first second parts =
+last_of_split (suc r) (x ∷ xs) (y ∷ ys) zero (suc j) sum first second parts =
     elim (comes_before y x) as (λ t. comes_before y x ≡ t → last_of (together (x ∷ xs) (y ∷ ys)) (suc r) ≡ higher Low (at_rank (y ∷ ys) j)) [
       | true ↦ λ before. take_in_second x y xs ys zero j r first second before
-          (last_of_cut r (x ∷ xs) ys zero j (omega (arith, sum)) first second.1 (record {
+          (last_of_split r (x ∷ xs) ys zero j (omega (arith, sum)) first second.1 (record {
             first = parts.first;
             second = omega (arith, parts.second);
             lesser = parts.lesser;
@@ -204,17 +204,17 @@ last_of_cut (suc r) (x ∷ xs) (y ∷ ys) zero (suc j) sum first second parts =
           }))
       | false ↦ λ after. absurd (none_second x y ys j second.0 after parts.greater)
     ] refl
-last_of_cut (suc r) (x ∷ xs) (y ∷ ys) (suc i) (suc j) sum first second parts =
+last_of_split (suc r) (x ∷ xs) (y ∷ ys) (suc i) (suc j) sum first second parts =
     elim (comes_before y x) as (λ t. comes_before y x ≡ t → last_of (together (x ∷ xs) (y ∷ ys)) (suc r) ≡ higher (at_rank (x ∷ xs) i) (at_rank (y ∷ ys) j)) [
       | true ↦ λ before. take_in_second x y xs ys (suc i) j r first second before
-          (last_of_cut r (x ∷ xs) ys (suc i) j (omega (arith, sum)) first second.1 (record {
+          (last_of_split r (x ∷ xs) ys (suc i) j (omega (arith, sum)) first second.1 (record {
             first = parts.first;
             second = omega (arith, parts.second);
             lesser = parts.lesser;
             greater = first_less y ys j (at_rank xs i) (rank_some xs i) parts.greater;
           }))
       | false ↦ λ after. take_in_first x y xs ys i (suc j) r first second after
-          (last_of_cut r xs (y ∷ ys) i (suc j) (omega (arith, sum)) first.1 second (record {
+          (last_of_split r xs (y ∷ ys) i (suc j) (omega (arith, sum)) first.1 second (record {
             first = omega (arith, parts.first);
             second = parts.second;
             lesser = last_more x xs i (at_rank ys j) parts.lesser;

@@ -8,15 +8,15 @@ use Rattle.retro_base.specs.EntriesInOrder.{AreInOrder}
 use Rattle.retro_base.specs.State.{comes_before}
 use Rattle.pq_fusion.specs.declared.bound.Bound.{Bound}
 use Rattle.pq_fusion.specs.declared.bound.Bound.TheVariants.{At, Top}
-use Rattle.pq_fusion.specs.declared.window.Window.{Window}
-use Rattle.pq_fusion.specs.declared.window.Middle.{Middle}
+use Rattle.pq_fusion.specs.declared.interval.Interval.{Interval}
+use Rattle.pq_fusion.specs.declared.interval.Middle.{Middle}
 use Rattle.pq_fusion.specs.Bounds.{is_below, at_rank, last_of}
 use Rattle.pq_fusion.specs.Chunks.{entries_of}
-use Rattle.pq_fusion.specs.Windows.{AreLent, IsHalf, IsMiddle, IsWindow, before_middle, behind_middle}
+use Rattle.pq_fusion.specs.Intervals.{AreLent, IsHalf, IsMiddle, IsInterval, before_middle, behind_middle}
 use Rattle.pq_fusion.proofs.Bounded.{further}
 use Rattle.pq_fusion.proofs.Parted.{rank_in, rank_some}
 use Rattle.pq_fusion.proofs.Begun.{chunks_few}
-use Rattle.pq_fusion.proofs.Ranked.{AreCut, at_end, never_low}
+use Rattle.pq_fusion.proofs.Ranked.{AreSplit, at_end, never_low}
 
 not_less : (a b : ℕ) → (a < b → ⊥) → b ≤ a
 not_less a zero none = omega arith
@@ -48,7 +48,7 @@ above_below a b c before above = elim (is_below a c) as (λ t. is_below a c ≡ 
 ] refl
 
 -- the parts that a place in one list and one in the other leave
-module _ (xs ys : List Entry) (first second p q : ℕ) (x y : Entry) (first_order : AreInOrder xs) (second_order : AreInOrder ys) (parts : AreCut xs ys first second)
+module _ (xs ys : List Entry) (first second p q : ℕ) (x y : Entry) (first_order : AreInOrder xs) (second_order : AreInOrder ys) (parts : AreSplit xs ys first second)
     (there : at_rank xs p ≡ At x) (other : at_rank ys q ≡ At y) where
   not_both_lesser : comes_before y x ≡ true → p < first → second ≤ q → ⊥
   not_both_lesser before own least =
@@ -65,35 +65,35 @@ module _ (xs ys : List Entry) (first second p q : ℕ) (x y : Entry) (first_orde
       let wrong : true ≡ false = sym parts.greater ∙ further (at_rank xs first) (At y) (last_of ys second) two three in absurd (cc)
 
 -- the parts of so many entries
-pub record IsCutAt (xs ys : List Entry) (rank : ℕ) : Type 0 where
+pub record IsSplitAt (xs ys : List Entry) (rank : ℕ) : Type 0 where
   pub first : ℕ
   pub second : ℕ
   pub sum : first + second ≡ rank
-  pub parts : AreCut xs ys first second
+  pub parts : AreSplit xs ys first second
 
-cut_more : (xs ys : List Entry) (rank : ℕ) → AreInOrder xs → AreInOrder ys → rank < length xs + length ys → IsCutAt xs ys rank → IsCutAt xs ys (suc rank)
-cut_more xs ys rank first_order second_order more cut =
-    elim (is_below (at_rank ys cut.second) (at_rank xs cut.first)) as (λ t. is_below (at_rank ys cut.second) (at_rank xs cut.first) ≡ t → IsCutAt xs ys (suc rank)) [
+split_more : (xs ys : List Entry) (rank : ℕ) → AreInOrder xs → AreInOrder ys → rank < length xs + length ys → IsSplitAt xs ys rank → IsSplitAt xs ys (suc rank)
+split_more xs ys rank first_order second_order more split =
+    elim (is_below (at_rank ys split.second) (at_rank xs split.first)) as (λ t. is_below (at_rank ys split.second) (at_rank xs split.first) ≡ t → IsSplitAt xs ys (suc rank)) [
       | true ↦ λ before. record {
-        first = cut.first;
-        second = suc cut.second;
-        sum = omega (arith, cut.sum);
+        first = split.first;
+        second = suc split.second;
+        sum = omega (arith, split.sum);
         parts = record {
-          first = cut.parts.first;
-          second = below_inside ys cut.second (at_rank xs cut.first) before;
-          lesser = further (last_of xs cut.first) (at_rank ys cut.second) (at_rank ys (suc cut.second)) cut.parts.lesser (later_no_less ys cut.second (suc cut.second) second_order (omega arith));
+          first = split.parts.first;
+          second = below_inside ys split.second (at_rank xs split.first) before;
+          lesser = further (last_of xs split.first) (at_rank ys split.second) (at_rank ys (suc split.second)) split.parts.lesser (later_no_less ys split.second (suc split.second) second_order (omega arith));
           greater = before;
         };
       }
       | false ↦ λ after. record {
-        first = suc cut.first;
-        second = cut.second;
-        sum = omega (arith, cut.sum);
+        first = suc split.first;
+        second = split.second;
+        sum = omega (arith, split.sum);
         parts = record {
           first = some_left after;
-          second = cut.parts.second;
+          second = split.parts.second;
           lesser = after;
-          greater = above_below (last_of ys cut.second) (at_rank xs cut.first) (at_rank xs (suc cut.first)) cut.parts.greater (later_no_less xs cut.first (suc cut.first) first_order (omega arith));
+          greater = above_below (last_of ys split.second) (at_rank xs split.first) (at_rank xs (suc split.first)) split.parts.greater (later_no_less xs split.first (suc split.first) first_order (omega arith));
         };
       }
     ] refl
@@ -103,124 +103,124 @@ cut_more xs ys rank first_order second_order more cut =
     less_than_top (z ∷ zs) zero top = absurd (cc)
     less_than_top (z ∷ zs) (suc n) top = omega (arith, less_than_top zs n top)
 
-    some_left : is_below (at_rank ys cut.second) (at_rank xs cut.first) ≡ false → cut.first < length xs
-    some_left after = not_less (length xs) (suc cut.first) (λ over. absurd (omega (
+    some_left : is_below (at_rank ys split.second) (at_rank xs split.first) ≡ false → split.first < length xs
+    some_left after = not_less (length xs) (suc split.first) (λ over. absurd (omega (
       arith,
       more,
-      cut.sum,
+      split.sum,
       over,
-      less_than_top ys cut.second (ap (is_below (at_rank ys cut.second)) (sym (at_end xs cut.first (omega (arith, over)))) ∙ after),
+      less_than_top ys split.second (ap (is_below (at_rank ys split.second)) (sym (at_end xs split.first (omega (arith, over)))) ∙ after),
     )))
 
-pub cut_exists : (xs ys : List Entry) (rank : ℕ) → AreInOrder xs → AreInOrder ys → rank ≤ length xs + length ys → IsCutAt xs ys rank
-cut_exists xs ys zero first_order second_order within = record {
+pub split_exists : (xs ys : List Entry) (rank : ℕ) → AreInOrder xs → AreInOrder ys → rank ≤ length xs + length ys → IsSplitAt xs ys rank
+split_exists xs ys zero first_order second_order within = record {
   first = 0;
   second = 0;
   sum = refl;
   parts = record { first = omega arith; second = omega arith; lesser = never_low (at_rank ys 0); greater = rank_some xs 0 };
 }
-cut_exists xs ys (suc rank) first_order second_order within =
-    cut_more xs ys rank first_order second_order (omega (arith, within)) (cut_exists xs ys rank first_order second_order (omega (arith, within)))
+split_exists xs ys (suc rank) first_order second_order within =
+    split_more xs ys rank first_order second_order (omega (arith, within)) (split_exists xs ys rank first_order second_order (omega (arith, within)))
 
 -- the parts lie between these
-pub record IsSoughtCut (xs ys : List Entry) (rank low high other_low other_high : ℕ) : Type 0 where
-  pub cut : IsCutAt xs ys rank
-  pub from : low ≤ cut.first
-  pub to : cut.first ≤ high
-  pub other_from : other_low ≤ cut.second
-  pub other_to : cut.second ≤ other_high
+pub record IsSoughtSplit (xs ys : List Entry) (rank low high other_low other_high : ℕ) : Type 0 where
+  pub split : IsSplitAt xs ys rank
+  pub from : low ≤ split.first
+  pub to : split.first ≤ high
+  pub other_from : other_low ≤ split.second
+  pub other_to : split.second ≤ other_high
 
 pub sought_starts : (xs ys : List Entry) (rank : ℕ) → AreInOrder xs → AreInOrder ys → rank ≤ length xs + length ys
-    → IsSoughtCut xs ys rank (rank - length ys) (min rank (length xs)) (rank - length xs) (min rank (length ys))
+    → IsSoughtSplit xs ys rank (rank - length ys) (min rank (length xs)) (rank - length xs) (min rank (length ys))
 sought_starts xs ys rank first_order second_order within =
-    let cut = cut_exists xs ys rank first_order second_order within in record {
-      cut = cut;
-      from = omega (arith, cut.sum, cut.parts.second);
-      to = omega (arith, cut.sum, cut.parts.first);
-      other_from = omega (arith, cut.sum, cut.parts.first);
-      other_to = omega (arith, cut.sum, cut.parts.second);
+    let split = split_exists xs ys rank first_order second_order within in record {
+      split = split;
+      from = omega (arith, split.sum, split.parts.second);
+      to = omega (arith, split.sum, split.parts.first);
+      other_from = omega (arith, split.sum, split.parts.first);
+      other_to = omega (arith, split.sum, split.parts.second);
     }
 
 module _ (xs ys : List Entry) (rank low high other_low other_high p q : ℕ) (x y : Entry) (first_order : AreInOrder xs) (second_order : AreInOrder ys)
-    (there : at_rank xs p ≡ At x) (other : at_rank ys q ≡ At y) (sought : IsSoughtCut xs ys rank low high other_low other_high) where
-  lesser : comes_before y x ≡ true → p < sought.cut.first → sought.cut.second ≤ q → ⊥
-  lesser = not_both_lesser xs ys sought.cut.first sought.cut.second p q x y first_order second_order sought.cut.parts there other
+    (there : at_rank xs p ≡ At x) (other : at_rank ys q ≡ At y) (sought : IsSoughtSplit xs ys rank low high other_low other_high) where
+  lesser : comes_before y x ≡ true → p < sought.split.first → sought.split.second ≤ q → ⊥
+  lesser = not_both_lesser xs ys sought.split.first sought.split.second p q x y first_order second_order sought.split.parts there other
 
-  greater : comes_before y x ≡ false → sought.cut.first ≤ p → q < sought.cut.second → ⊥
-  greater = not_both_greater xs ys sought.cut.first sought.cut.second p q x y first_order second_order sought.cut.parts there other
+  greater : comes_before y x ≡ false → sought.split.first ≤ p → q < sought.split.second → ⊥
+  greater = not_both_greater xs ys sought.split.first sought.split.second p q x y first_order second_order sought.split.parts there other
 
-  pub before_first : comes_before y x ≡ true → rank ≤ p + q → IsSoughtCut xs ys rank low (min high p) other_low other_high
+  pub before_first : comes_before y x ≡ true → rank ≤ p + q → IsSoughtSplit xs ys rank low (min high p) other_low other_high
   before_first before far = record {
-    cut = sought.cut;
+    split = sought.split;
     from = sought.from;
-    to = omega (arith, sought.to, not_less p sought.cut.first (λ less. lesser before less (omega (arith, sought.cut.sum, far, less))));
+    to = omega (arith, sought.to, not_less p sought.split.first (λ less. lesser before less (omega (arith, sought.split.sum, far, less))));
     other_from = sought.other_from;
     other_to = sought.other_to;
   }
 
-  pub behind_second : comes_before y x ≡ true → p + q < rank → IsSoughtCut xs ys rank low high (max other_low (q + 1)) other_high
+  pub behind_second : comes_before y x ≡ true → p + q < rank → IsSoughtSplit xs ys rank low high (max other_low (q + 1)) other_high
   behind_second before near = record {
-    cut = sought.cut;
+    split = sought.split;
     from = sought.from;
     to = sought.to;
-    other_from = omega (arith, sought.other_from, not_less sought.cut.second (q + 1) (λ less. lesser before (omega (arith, sought.cut.sum, near, less)) (omega (arith, less))));
+    other_from = omega (arith, sought.other_from, not_less sought.split.second (q + 1) (λ less. lesser before (omega (arith, sought.split.sum, near, less)) (omega (arith, less))));
     other_to = sought.other_to;
   }
 
-  pub before_second : comes_before y x ≡ false → rank ≤ p + q → IsSoughtCut xs ys rank low high other_low (min other_high q)
+  pub before_second : comes_before y x ≡ false → rank ≤ p + q → IsSoughtSplit xs ys rank low high other_low (min other_high q)
   before_second after far = record {
-    cut = sought.cut;
+    split = sought.split;
     from = sought.from;
     to = sought.to;
     other_from = sought.other_from;
-    other_to = omega (arith, sought.other_to, not_less q sought.cut.second (λ less. greater after (omega (arith, sought.cut.sum, far, less)) less));
+    other_to = omega (arith, sought.other_to, not_less q sought.split.second (λ less. greater after (omega (arith, sought.split.sum, far, less)) less));
   }
 
-  pub behind_first : comes_before y x ≡ false → p + q < rank → IsSoughtCut xs ys rank (max low (p + 1)) high other_low other_high
+  pub behind_first : comes_before y x ≡ false → p + q < rank → IsSoughtSplit xs ys rank (max low (p + 1)) high other_low other_high
   behind_first after near = record {
-    cut = sought.cut;
-    from = omega (arith, sought.from, not_less sought.cut.first (p + 1) (λ less. greater after (omega (arith, less)) (omega (arith, sought.cut.sum, near, less))));
+    split = sought.split;
+    from = omega (arith, sought.from, not_less sought.split.first (p + 1) (λ less. greater after (omega (arith, less)) (omega (arith, sought.split.sum, near, less))));
     to = sought.to;
     other_from = sought.other_from;
     other_to = sought.other_to;
   }
 
 -- one place is left in one of the lists
-pub sought_first : (xs ys : List Entry) (rank low high other_low other_high : ℕ) → IsSoughtCut xs ys rank low high other_low other_high → high ≤ low
-    → (low ≤ rank) × AreCut xs ys low (rank - low)
+pub sought_first : (xs ys : List Entry) (rank low high other_low other_high : ℕ) → IsSoughtSplit xs ys rank low high other_low other_high → high ≤ low
+    → (low ≤ rank) × AreSplit xs ys low (rank - low)
 sought_first xs ys rank low high other_low other_high sought over =
-    let one : sought.cut.first ≡ low = omega (arith, sought.from, sought.to, over) in
-    let two : sought.cut.second ≡ rank - low = omega (arith, sought.cut.sum, one) in
-    (omega (arith, sought.cut.sum, one), subst (λ n. AreCut xs ys low n) two (subst (λ n. AreCut xs ys n sought.cut.second) one sought.cut.parts))
+    let one : sought.split.first ≡ low = omega (arith, sought.from, sought.to, over) in
+    let two : sought.split.second ≡ rank - low = omega (arith, sought.split.sum, one) in
+    (omega (arith, sought.split.sum, one), subst (λ n. AreSplit xs ys low n) two (subst (λ n. AreSplit xs ys n sought.split.second) one sought.split.parts))
 
-pub sought_second : (xs ys : List Entry) (rank low high other_low other_high : ℕ) → IsSoughtCut xs ys rank low high other_low other_high → other_high ≤ other_low
-    → (other_low ≤ rank) × AreCut xs ys (rank - other_low) (rank - (rank - other_low))
+pub sought_second : (xs ys : List Entry) (rank low high other_low other_high : ℕ) → IsSoughtSplit xs ys rank low high other_low other_high → other_high ≤ other_low
+    → (other_low ≤ rank) × AreSplit xs ys (rank - other_low) (rank - (rank - other_low))
 sought_second xs ys rank low high other_low other_high sought over =
-    let two : sought.cut.second ≡ other_low = omega (arith, sought.other_from, sought.other_to, over) in
-    let one : sought.cut.first ≡ rank - other_low = omega (arith, sought.cut.sum, two) in
-    let back : sought.cut.second ≡ rank - (rank - other_low) = omega (arith, sought.cut.sum, two) in
-    (omega (arith, sought.cut.sum, two), subst (λ n. AreCut xs ys (rank - other_low) n) back (subst (λ n. AreCut xs ys n sought.cut.second) one sought.cut.parts))
+    let two : sought.split.second ≡ other_low = omega (arith, sought.other_from, sought.other_to, over) in
+    let one : sought.split.first ≡ rank - other_low = omega (arith, sought.split.sum, two) in
+    let back : sought.split.second ≡ rank - (rank - other_low) = omega (arith, sought.split.sum, two) in
+    (omega (arith, sought.split.sum, two), subst (λ n. AreSplit xs ys (rank - other_low) n) back (subst (λ n. AreSplit xs ys n sought.split.second) one sought.split.parts))
 
-pub is_closed : (window : Window) (answer : Bool) → answer ≡ nat_lt window.low window.high → answer ≡ false → window.high ≤ window.low
-is_closed window answer is over = let none : nat_lt window.low window.high ≡ false = sym is ∙ over in grind (arith, nat_tests)
+pub is_closed : (interval : Interval) (answer : Bool) → answer ≡ nat_lt interval.low interval.high → answer ≡ false → interval.high ≤ interval.low
+is_closed interval answer is over = let none : nat_lt interval.low interval.high ≡ false = sym is ∙ over in grind (arith, nat_tests)
 
--- turns that a window may still take: among its chunks, and then among its places
-pub record IsLeftOf (window : Window) (turns : ℕ) : Type 0 where
+-- turns that an interval may still take: among its chunks, and then among its places
+pub record IsLeftOf (interval : Interval) (turns : ℕ) : Type 0 where
   pub among : ℕ
   pub within : ℕ
-  pub few_chunks : window.last - window.first ≤ 2 ^ among
-  pub few_places : window.high - window.low < 2 ^ within
+  pub few_chunks : interval.last - interval.first ≤ 2 ^ among
+  pub few_places : interval.high - interval.low < 2 ^ within
   pub sum : among + within ≡ turns
 
-pub record IsLeftAfter (part : Window) (turns : ℕ) : Type 0 where
+pub record IsLeftAfter (part : Interval) (turns : ℕ) : Type 0 where
   pub next : ℕ
   pub fewer : suc next ≡ turns
   pub left : IsLeftOf part next
 
-half_window : (window part : Window) (turns : ℕ) → IsHalf window part → IsLeftOf window turns → IsLeftAfter part turns
-half_window window part turns half left = by left.among left.within left.few_chunks left.few_places left.sum half
+half_interval : (interval part : Interval) (turns : ℕ) → IsHalf interval part → IsLeftOf interval turns → IsLeftAfter part turns
+half_interval interval part turns half left = by left.among left.within left.few_chunks left.few_places left.sum half
   where
-    by : (among within : ℕ) → window.last - window.first ≤ 2 ^ among → window.high - window.low < 2 ^ within → among + within ≡ turns → IsHalf window part → IsLeftAfter part turns
+    by : (among within : ℕ) → interval.last - interval.first ≤ 2 ^ among → interval.high - interval.low < 2 ^ within → among + within ≡ turns → IsHalf interval part → IsLeftAfter part turns
     by zero within few_chunks few_places sum (inl chunks) = absurd (omega (arith, few_chunks, chunks.0))
     by (suc among) within few_chunks few_places sum (inl chunks) = record {
       next = among + within;
@@ -246,16 +246,16 @@ half_window window part turns half left = by left.among left.within left.few_chu
       };
     }
 
-pub record AreLeft (own other : Window) (start steps k : ℕ) : Type 0 where
+pub record AreLeft (own other : Interval) (start steps k : ℕ) : Type 0 where
   pub turns : ℕ
   pub other_turns : ℕ
   pub left : IsLeftOf own turns
   pub other_left : IsLeftOf other other_turns
   pub few : steps + (turns + other_turns) ≤ start + 4 * k
 
-own_turn : (own part other : Window) (start steps next k : ℕ) → IsHalf own part → next ≡ steps + 1 → AreLeft own other start steps k → AreLeft part other start next k
+own_turn : (own part other : Interval) (start steps next k : ℕ) → IsHalf own part → next ≡ steps + 1 → AreLeft own other start steps k → AreLeft part other start next k
 own_turn own part other start steps next k half one left =
-    let after = half_window own part left.turns half left.left in record {
+    let after = half_interval own part left.turns half left.left in record {
       turns = after.next;
       other_turns = left.other_turns;
       left = after.left;
@@ -263,9 +263,9 @@ own_turn own part other start steps next k half one left =
       few = omega (arith, left.few, after.fewer, one);
     }
 
-other_turn : (own other part : Window) (start steps next k : ℕ) → IsHalf other part → next ≡ steps + 1 → AreLeft own other start steps k → AreLeft own part start next k
+other_turn : (own other part : Interval) (start steps next k : ℕ) → IsHalf other part → next ≡ steps + 1 → AreLeft own other start steps k → AreLeft own part start next k
 other_turn own other part start steps next k half one left =
-    let after = half_window other part left.other_turns half left.other_left in record {
+    let after = half_interval other part left.other_turns half left.other_left in record {
       turns = left.turns;
       other_turns = after.next;
       left = left.left;
@@ -275,10 +275,10 @@ other_turn own other part start steps next k half one left =
 
 module _ {A : Type 0} where
   -- the search in both lists, with its turns counted
-  pub record IsCutting (xs ys : List (Vec Entry A)) (rank : ℕ) (own other : Window) (start steps : ℕ) : Type 0 where
-    pub window : IsWindow xs own
-    pub other_window : IsWindow ys other
-    pub sought : IsSoughtCut (entries_of xs) (entries_of ys) rank own.low own.high other.low other.high
+  pub record IsSplitting (xs ys : List (Vec Entry A)) (rank : ℕ) (own other : Interval) (start steps : ℕ) : Type 0 where
+    pub interval : IsInterval xs own
+    pub other_interval : IsInterval ys other
+    pub sought : IsSoughtSplit (entries_of xs) (entries_of ys) rank own.low own.high other.low other.high
     pub none_lost : start ≤ steps
     pub visits : (k : ℕ) → length (entries_of xs) < 2 ^ k → length (entries_of ys) < 2 ^ k → AreLeft own other start steps k
 
@@ -287,9 +287,9 @@ module _ {A : Type 0} where
   lent_few (one ∷ []) starts lent k small = omega (arith, small)
   lent_few (one ∷ two ∷ others) starts lent k small = omega (arith, small, chunks_few (one ∷ two ∷ others) (lent.filled (omega arith)))
 
-  whole_left : (chunks : List (Vec Entry A)) (starts : List ℕ) → AreLent chunks starts → (window : Window) → window.last ≤ length chunks → window.high ≤ length (entries_of chunks)
-      → (k : ℕ) → length (entries_of chunks) < 2 ^ k → IsLeftOf window (k + k)
-  whole_left chunks starts lent window within inside k small = record {
+  whole_left : (chunks : List (Vec Entry A)) (starts : List ℕ) → AreLent chunks starts → (interval : Interval) → interval.last ≤ length chunks → interval.high ≤ length (entries_of chunks)
+      → (k : ℕ) → length (entries_of chunks) < 2 ^ k → IsLeftOf interval (k + k)
+  whole_left chunks starts lent interval within inside k small = record {
     among = k;
     within = k;
     few_chunks = omega (arith, within, lent_few chunks starts lent k small);
@@ -297,15 +297,15 @@ module _ {A : Type 0} where
     sum = refl;
   }
 
-  pub cutting_starts : (xs ys : List (Vec Entry A)) (first_starts second_starts : List ℕ) (rank : ℕ) (own other : Window) (steps : ℕ) → AreInOrder (entries_of xs) → AreInOrder (entries_of ys)
-      → rank ≤ length (entries_of xs) + length (entries_of ys) → AreLent xs first_starts → AreLent ys second_starts → IsWindow xs own → IsWindow ys other
+  pub splitting_starts : (xs ys : List (Vec Entry A)) (first_starts second_starts : List ℕ) (rank : ℕ) (own other : Interval) (steps : ℕ) → AreInOrder (entries_of xs) → AreInOrder (entries_of ys)
+      → rank ≤ length (entries_of xs) + length (entries_of ys) → AreLent xs first_starts → AreLent ys second_starts → IsInterval xs own → IsInterval ys other
       → own.low ≡ rank - length (entries_of ys) → own.high ≡ min rank (length (entries_of xs)) → other.low ≡ rank - length (entries_of xs) → other.high ≡ min rank (length (entries_of ys))
-      → IsCutting xs ys rank own other steps steps
-  cutting_starts xs ys first_starts second_starts rank own other steps first_order second_order within first_lent second_lent window other_window low high other_low other_high = record {
-    window = window;
-    other_window = other_window;
+      → IsSplitting xs ys rank own other steps steps
+  splitting_starts xs ys first_starts second_starts rank own other steps first_order second_order within first_lent second_lent interval other_interval low high other_low other_high = record {
+    interval = interval;
+    other_interval = other_interval;
     sought = let sought = sought_starts (entries_of xs) (entries_of ys) rank first_order second_order within in record {
-      cut = sought.cut;
+      split = sought.split;
       from = omega (arith, low, sought.from);
       to = omega (arith, high, sought.to);
       other_from = omega (arith, other_low, sought.other_from);
@@ -315,64 +315,64 @@ module _ {A : Type 0} where
     visits = λ k small other_small. record {
       turns = k + k;
       other_turns = k + k;
-      left = whole_left xs first_starts first_lent own window.within (omega (arith, high)) k small;
-      other_left = whole_left ys second_starts second_lent other other_window.within (omega (arith, other_high)) k other_small;
+      left = whole_left xs first_starts first_lent own interval.within (omega (arith, high)) k small;
+      other_left = whole_left ys second_starts second_lent other other_interval.within (omega (arith, other_high)) k other_small;
       few = omega arith;
     };
   }
 
-  module _ (xs ys : List (Vec Entry A)) (rank : ℕ) (own other : Window) (start steps next : ℕ) (middle other_middle : Middle) (first_order : AreInOrder (entries_of xs)) (second_order : AreInOrder (entries_of ys))
-      (cutting : IsCutting xs ys rank own other start steps) (found : IsMiddle xs own middle) (other_found : IsMiddle ys other other_middle) (one : next ≡ steps + 1) where
-    pub cutting_before : comes_before other_middle.entry middle.entry ≡ true → rank ≤ middle.place + other_middle.place → IsCutting xs ys rank (before_middle own middle) other start next
-    cutting_before before far = record {
-      window = found.before;
-      other_window = cutting.other_window;
+  module _ (xs ys : List (Vec Entry A)) (rank : ℕ) (own other : Interval) (start steps next : ℕ) (middle other_middle : Middle) (first_order : AreInOrder (entries_of xs)) (second_order : AreInOrder (entries_of ys))
+      (splitting : IsSplitting xs ys rank own other start steps) (found : IsMiddle xs own middle) (other_found : IsMiddle ys other other_middle) (one : next ≡ steps + 1) where
+    pub splitting_before : comes_before other_middle.entry middle.entry ≡ true → rank ≤ middle.place + other_middle.place → IsSplitting xs ys rank (before_middle own middle) other start next
+    splitting_before before far = record {
+      interval = found.before;
+      other_interval = splitting.other_interval;
       sought = before_first (entries_of xs) (entries_of ys) rank own.low own.high other.low other.high middle.place other_middle.place middle.entry other_middle.entry first_order second_order
-          found.there other_found.there cutting.sought before far;
-      none_lost = omega (arith, cutting.none_lost, one);
-      visits = λ k small other_small. own_turn own (before_middle own middle) other start steps next k found.before_half one (cutting.visits k small other_small);
+          found.there other_found.there splitting.sought before far;
+      none_lost = omega (arith, splitting.none_lost, one);
+      visits = λ k small other_small. own_turn own (before_middle own middle) other start steps next k found.before_half one (splitting.visits k small other_small);
     }
 
-    pub cutting_other_behind : comes_before other_middle.entry middle.entry ≡ true → middle.place + other_middle.place < rank → IsCutting xs ys rank own (behind_middle other other_middle) start next
-    cutting_other_behind before near = record {
-      window = cutting.window;
-      other_window = other_found.behind;
+    pub splitting_other_behind : comes_before other_middle.entry middle.entry ≡ true → middle.place + other_middle.place < rank → IsSplitting xs ys rank own (behind_middle other other_middle) start next
+    splitting_other_behind before near = record {
+      interval = splitting.interval;
+      other_interval = other_found.behind;
       sought = behind_second (entries_of xs) (entries_of ys) rank own.low own.high other.low other.high middle.place other_middle.place middle.entry other_middle.entry first_order second_order
-          found.there other_found.there cutting.sought before near;
-      none_lost = omega (arith, cutting.none_lost, one);
-      visits = λ k small other_small. other_turn own other (behind_middle other other_middle) start steps next k other_found.behind_half one (cutting.visits k small other_small);
+          found.there other_found.there splitting.sought before near;
+      none_lost = omega (arith, splitting.none_lost, one);
+      visits = λ k small other_small. other_turn own other (behind_middle other other_middle) start steps next k other_found.behind_half one (splitting.visits k small other_small);
     }
 
-    pub cutting_other_before : comes_before other_middle.entry middle.entry ≡ false → rank ≤ middle.place + other_middle.place → IsCutting xs ys rank own (before_middle other other_middle) start next
-    cutting_other_before after far = record {
-      window = cutting.window;
-      other_window = other_found.before;
+    pub splitting_other_before : comes_before other_middle.entry middle.entry ≡ false → rank ≤ middle.place + other_middle.place → IsSplitting xs ys rank own (before_middle other other_middle) start next
+    splitting_other_before after far = record {
+      interval = splitting.interval;
+      other_interval = other_found.before;
       sought = before_second (entries_of xs) (entries_of ys) rank own.low own.high other.low other.high middle.place other_middle.place middle.entry other_middle.entry first_order second_order
-          found.there other_found.there cutting.sought after far;
-      none_lost = omega (arith, cutting.none_lost, one);
-      visits = λ k small other_small. other_turn own other (before_middle other other_middle) start steps next k other_found.before_half one (cutting.visits k small other_small);
+          found.there other_found.there splitting.sought after far;
+      none_lost = omega (arith, splitting.none_lost, one);
+      visits = λ k small other_small. other_turn own other (before_middle other other_middle) start steps next k other_found.before_half one (splitting.visits k small other_small);
     }
 
-    pub cutting_behind : comes_before other_middle.entry middle.entry ≡ false → middle.place + other_middle.place < rank → IsCutting xs ys rank (behind_middle own middle) other start next
-    cutting_behind after near = record {
-      window = found.behind;
-      other_window = cutting.other_window;
+    pub splitting_behind : comes_before other_middle.entry middle.entry ≡ false → middle.place + other_middle.place < rank → IsSplitting xs ys rank (behind_middle own middle) other start next
+    splitting_behind after near = record {
+      interval = found.behind;
+      other_interval = splitting.other_interval;
       sought = behind_first (entries_of xs) (entries_of ys) rank own.low own.high other.low other.high middle.place other_middle.place middle.entry other_middle.entry first_order second_order
-          found.there other_found.there cutting.sought after near;
-      none_lost = omega (arith, cutting.none_lost, one);
-      visits = λ k small other_small. own_turn own (behind_middle own middle) other start steps next k found.behind_half one (cutting.visits k small other_small);
+          found.there other_found.there splitting.sought after near;
+      none_lost = omega (arith, splitting.none_lost, one);
+      visits = λ k small other_small. own_turn own (behind_middle own middle) other start steps next k found.behind_half one (splitting.visits k small other_small);
     }
 
   -- one place is left in one of the lists
-  pub cut_by_first : (xs ys : List (Vec Entry A)) (first second : List Entry) (rank : ℕ) (own other : Window) (start steps : ℕ) → entries_of xs ≡ first → entries_of ys ≡ second
-      → IsCutting xs ys rank own other start steps → own.high ≤ own.low → AreCut first second own.low (rank - own.low)
-  cut_by_first xs ys first second rank own other start steps first_is second_is cutting over =
-      let cut = sought_first (entries_of xs) (entries_of ys) rank own.low own.high other.low other.high cutting.sought over in
-      subst (λ l. AreCut first l own.low (rank - own.low)) second_is (subst (λ l. AreCut l (entries_of ys) own.low (rank - own.low)) first_is cut.1)
+  pub split_by_first : (xs ys : List (Vec Entry A)) (first second : List Entry) (rank : ℕ) (own other : Interval) (start steps : ℕ) → entries_of xs ≡ first → entries_of ys ≡ second
+      → IsSplitting xs ys rank own other start steps → own.high ≤ own.low → AreSplit first second own.low (rank - own.low)
+  split_by_first xs ys first second rank own other start steps first_is second_is splitting over =
+      let split = sought_first (entries_of xs) (entries_of ys) rank own.low own.high other.low other.high splitting.sought over in
+      subst (λ l. AreSplit first l own.low (rank - own.low)) second_is (subst (λ l. AreSplit l (entries_of ys) own.low (rank - own.low)) first_is split.1)
 
-  pub cut_by_second : (xs ys : List (Vec Entry A)) (first second : List Entry) (rank : ℕ) (own other : Window) (start steps : ℕ) → entries_of xs ≡ first → entries_of ys ≡ second
-      → IsCutting xs ys rank own other start steps → other.high ≤ other.low → AreCut first second (rank - other.low) (rank - (rank - other.low))
-  cut_by_second xs ys first second rank own other start steps first_is second_is cutting over =
-      let cut = sought_second (entries_of xs) (entries_of ys) rank own.low own.high other.low other.high cutting.sought over in
-      subst (λ l. AreCut first l (rank - other.low) (rank - (rank - other.low))) second_is
-      (subst (λ l. AreCut l (entries_of ys) (rank - other.low) (rank - (rank - other.low))) first_is cut.1)
+  pub split_by_second : (xs ys : List (Vec Entry A)) (first second : List Entry) (rank : ℕ) (own other : Interval) (start steps : ℕ) → entries_of xs ≡ first → entries_of ys ≡ second
+      → IsSplitting xs ys rank own other start steps → other.high ≤ other.low → AreSplit first second (rank - other.low) (rank - (rank - other.low))
+  split_by_second xs ys first second rank own other start steps first_is second_is splitting over =
+      let split = sought_second (entries_of xs) (entries_of ys) rank own.low own.high other.low other.high splitting.sought over in
+      subst (λ l. AreSplit first l (rank - other.low) (rank - (rank - other.low))) second_is
+      (subst (λ l. AreSplit l (entries_of ys) (rank - other.low) (rank - (rank - other.low))) first_is split.1)

@@ -15,4 +15,4 @@ pub mod EntryCounts
 pub mod Searches
 pub mod Chunks
 pub mod Bodies
-pub mod Windows
+pub mod Intervals

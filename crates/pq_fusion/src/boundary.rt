@@ -8,7 +8,7 @@ ghost use Rattle.pq_fusion.specs.Searches.{SearchesBoth, SearchesWithin};
 
 use crate::Bound;
 use crate::entry_list::EntryList;
-use crate::window::Window;
+use crate::interval::Interval;
 use retro_base::Steps;
 use std::sync::ledger::Ledger;
 
@@ -26,7 +26,12 @@ fn bound_at<L: Ledger>(entries: &EntryList, rank: u32, steps: &mut Steps<L>) -> 
 /// How many of the least `rank` entries of two rising lists together are those of the first, where of equal ones those of the first
 /// come first. Sought in both lists at once: of the entries in the middle of what is left of each, the greater one and all behind it are
 /// too many where both places together are not below the rank, and the lesser one and all before it are among the least where they are.
-fn cut<L: Ledger>(first: &EntryList, second: &EntryList, rank: u32, steps: &mut Steps<L>) -> u32
+fn split_at_rank<L: Ledger>(
+    first: &EntryList,
+    second: &EntryList,
+    rank: u32,
+    steps: &mut Steps<L>,
+) -> u32
     requires within { rank ≤ length first.now + length second.now }
     ensures within { result ≤ rank }
     ensures first { result ≤ length first.now }
@@ -37,8 +42,8 @@ fn cut<L: Ledger>(first: &EntryList, second: &EntryList, rank: u32, steps: &mut 
 {
     let (own_len, other_len) = (first.len(), second.len());
     let (first, second) = (first.lent(), second.lent());
-    let mut own = Window::between(&first, rank.saturating_sub(other_len), rank.min(own_len));
-    let mut other = Window::between(&second, rank.saturating_sub(own_len), rank.min(other_len));
+    let mut own = Interval::between(&first, rank.saturating_sub(other_len), rank.min(own_len));
+    let mut other = Interval::between(&second, rank.saturating_sub(own_len), rank.min(other_len));
     'halve: while own.is_open() && other.is_open() {
         steps.tick();
         let (one, two) = (own.middle(&first), other.middle(&second));
@@ -74,7 +79,7 @@ fn at_rank<L: Ledger>(
     if rank >= first.len() + second.len() {
         return Bound::Top;
     }
-    let own = cut(first, second, rank, steps);
+    let own = split_at_rank(first, second, rank, steps);
     bound_at(first, own, steps).lower(bound_at(second, rank - own, steps))
 }
 

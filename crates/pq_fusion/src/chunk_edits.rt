@@ -10,7 +10,7 @@ ghost use Rattle.pq_fusion.specs.Exchanges.{Has, HasBound, IsExchange};
 ghost use Rattle.pq_fusion.specs.Searches.{SearchesWithin};
 
 use crate::Bound;
-use crate::exchange::{make_room, put_in, take_out};
+use crate::exchange::{make_room, put_entry, take_entry};
 use retro_base::{Entry, Steps};
 use std::sync::ledger::Ledger;
 
@@ -62,13 +62,13 @@ fn grow_into<L: Ledger>(
     ensures visits { SearchesWithin 1 (length chunk.old.items) steps.old steps.new }
 {
     if make_room(chunk).is_ok() {
-        put_in(chunk, entry, steps);
+        put_entry(chunk, entry, steps);
         return;
     }
     if spare.extend_from_slice(chunk.as_slice()).is_err() {
         unreachable!()
     }
-    put_in(&mut spare, entry, steps);
+    put_entry(&mut spare, entry, steps);
     *chunk = spare;
 }
 
@@ -89,9 +89,9 @@ fn put_in_either<L: Ledger>(
     ensures visits { SearchesWithin 1 (length (earlier.old.items ++ later.old.items)) steps.old steps.new }
 {
     if entry.comes_before(later[0]) {
-        put_in(earlier, entry, steps);
+        put_entry(earlier, entry, steps);
     } else {
-        put_in(later, entry, steps);
+        put_entry(later, entry, steps);
     }
 }
 
@@ -165,7 +165,7 @@ fn put_among<L: Ledger>(
     ensures visits { SearchesWithin 2 (length (entries_of chunks.old.items)) steps.old steps.new }
 {
     if chunks.as_slice().len() == 0 {
-        put_in(&mut spare, entry, steps);
+        put_entry(&mut spare, entry, steps);
         chunks.push_reserved(spare);
         return;
     }
@@ -191,7 +191,7 @@ fn take_among<L: Ledger>(chunks: &mut Vec<Vec<Entry>>, entry: Entry, steps: &mut
 {
     let place = home(chunks, entry, steps);
     let chunk = &mut chunks[place];
-    take_out(chunk, entry, steps);
+    take_entry(chunk, entry, steps);
     if chunk.as_slice().len() == 0 {
         let _ = chunks.remove(place);
     } else {

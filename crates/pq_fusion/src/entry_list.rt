@@ -8,14 +8,14 @@ ghost use Rattle.pq_fusion.specs.Chunks.{entries_of};
 ghost use Rattle.pq_fusion.specs.Exchanges.{IsExchange};
 ghost use Rattle.pq_fusion.specs.Searches.{SearchesList, SearchesWithin};
 ghost use Rattle.pq_fusion.specs.EntryCounts.{reaching};
-ghost use Rattle.pq_fusion.specs.Windows.{AreLent};
+ghost use Rattle.pq_fusion.specs.Intervals.{AreLent};
 
 use crate::Bound;
 use crate::chunk_edits::FULL;
 use crate::chunks::{Chunks, RoomyChunks, entry_at, reaching_in_chunks};
 use crate::entry_counts::reaching;
 use crate::exchange::{exchange, make_room};
-use crate::window::Lent;
+use crate::interval::Lent;
 use retro_base::{Entry, NoMemory, Steps};
 use std::alloc::Global;
 use std::marker::Model;

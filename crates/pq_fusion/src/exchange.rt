@@ -47,7 +47,7 @@ pub(crate) fn place_of<L: Ledger>(list: &[Entry], entry: Entry, steps: &mut Step
 }
 
 /// Puts an entry into a rising list that has room for it.
-pub(crate) fn put_in<L: Ledger>(list: &mut Vec<Entry>, entry: Entry, steps: &mut Steps<L>)
+pub(crate) fn put_entry<L: Ledger>(list: &mut Vec<Entry>, entry: Entry, steps: &mut Steps<L>)
     requires room { vec_len list.old < vec_capacity list.old }
     requires order { AreInOrder list.old.items }
     ensures items { list.new.items ≡ with_entry entry list.old.items }
@@ -75,11 +75,11 @@ fn put_with<L: Ledger>(list: &mut Vec<Entry>, entry: Entry, blank: Blank)
     ensures { list.new.items ≡ with_entry entry list.old.items }
 {
     let mut steps = Steps::<L>::new(blank);
-    put_in(list, entry, &mut steps);
+    put_entry(list, entry, &mut steps);
 }
 
 /// Takes an entry out of a rising list that has it.
-pub(crate) fn take_out<L: Ledger>(list: &mut Vec<Entry>, entry: Entry, steps: &mut Steps<L>)
+pub(crate) fn take_entry<L: Ledger>(list: &mut Vec<Entry>, entry: Entry, steps: &mut Steps<L>)
     requires order { AreInOrder list.old.items }
     requires there { Has entry list.old.items }
     ensures items { with_entry entry list.new.items ≡ list.old.items }
@@ -98,7 +98,7 @@ fn put_bound<L: Ledger>(list: &mut Vec<Entry>, put: Bound, steps: &mut Steps<L>)
     ensures visits { SearchesWithin 1 (length list.old.items) steps.old steps.new }
 {
     if let Bound::At(entry) = put {
-        put_in(list, entry, steps);
+        put_entry(list, entry, steps);
     }
 }
 
@@ -111,7 +111,7 @@ fn take_bound<L: Ledger>(list: &mut Vec<Entry>, take: Bound, steps: &mut Steps<L
     ensures visits { SearchesWithin 1 (length list.old.items) steps.old steps.new }
 {
     if let Bound::At(entry) = take {
-        take_out(list, entry, steps);
+        take_entry(list, entry, steps);
     }
 }
 

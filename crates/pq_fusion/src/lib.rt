@@ -78,7 +78,7 @@
 //!   that is made anew. `anew`: the counter of its rows.
 //! - `entry_list`, `chunks`, `chunk_edits`: entries in rising order with room for an edit, a long list of them in chunks, and an entry that
 //!   comes into one of these or goes. `node_piece`: a piece in two such lists. `exchange`: one entry of a list in the
-//!   place of another. `window`: where in a list a place may lie, while it is sought. `boundary`: the entry at a rank of two lists
+//!   place of another. `interval`: where in a list a place may lie, while it is sought. `boundary`: the entry at a rank of two lists
 //!   together. `difference`: what passed, by comparing.
 //! - `entry_counts`: how many entries are left after a path, and how many of them do not come before a given one. `select`: the key at an
 //!   index of what the first rows leave. `answer`: the answers of that. `fused_queue`.
@@ -96,6 +96,7 @@ mod entry_counts;
 mod entry_list;
 mod exchange;
 mod fused_queue;
+mod interval;
 pub mod laws;
 mod merge;
 mod node_piece;
@@ -109,7 +110,6 @@ mod row_edit;
 mod select;
 mod sides;
 mod subtree;
-mod window;
 
 pub use anew::Anew;
 pub use bound::Bound;

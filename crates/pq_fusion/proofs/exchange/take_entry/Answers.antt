@@ -4,7 +4,7 @@ use Rattle.retro_base.specs.EntriesInOrder.{AreInOrder}
 use Rattle.retro_base.specs.State.{with_entry}
 use Rattle.pq_fusion.specs.Exchanges.{Has}
 use Rattle.pq_fusion.proofs.Swapped.{removed}
-use Rattle.pq_fusion.proofs.exchange.take_out.Goals as goal
+use Rattle.pq_fusion.proofs.exchange.take_entry.Goals as goal
 
 pub remove-requires : goal.remove-requires
 remove-requires g c =

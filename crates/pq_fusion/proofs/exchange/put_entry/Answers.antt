@@ -2,7 +2,7 @@ use Rattle.std.proofs.Common.{rules, ◌≡◌, ◌∙◌, sym, ap}
 use Rattle.std.specs.List.{insert}
 use Rattle.retro_base.specs.State.{with_entry}
 use Rattle.retro_base.specs.lemmas.EntrySteps.{put_at}
-use Rattle.pq_fusion.proofs.exchange.put_in.Goals as goal
+use Rattle.pq_fusion.proofs.exchange.put_entry.Goals as goal
 
 pub returns-clause-items : goal.returns-clause-items
 returns-clause-items g c =

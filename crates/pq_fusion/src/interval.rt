@@ -3,7 +3,7 @@
 ghost use Rattle.std.specs.Prelude.{◌≡◌, ◌<◌, ◌≤◌, length, nat_lt};
 ghost use Rattle.retro_base.specs.Limits.{most_rows};
 ghost use Rattle.pq_fusion.specs.Chunks.{entries_of};
-ghost use Rattle.pq_fusion.specs.Windows.{AreLent, IsMiddle, IsWindow, before_middle, behind_middle};
+ghost use Rattle.pq_fusion.specs.Intervals.{AreLent, IsMiddle, IsInterval, before_middle, behind_middle};
 
 use retro_base::Entry;
 
@@ -16,7 +16,7 @@ pub(crate) struct Lent<'a> {
 
 /// Where a place may lie: from `low` to `high`, in the chunks from `first` to before `last`. Before these stand `start` entries.
 #[derive(Clone, Copy)]
-pub(crate) struct Window {
+pub(crate) struct Interval {
     pub(crate) first: usize,
     pub(crate) last: usize,
     pub(crate) start: u32,
@@ -24,7 +24,7 @@ pub(crate) struct Window {
     pub(crate) high: u32,
 }
 
-/// An entry in the middle of a window: the part before it ends at the chunk `end`, and the part behind it begins in `chunk`, before which
+/// An entry in the middle of an interval: the part before it ends at the chunk `end`, and the part behind it begins in `chunk`, before which
 /// stand `start` entries.
 #[derive(Clone, Copy)]
 pub(crate) struct Middle {
@@ -35,15 +35,15 @@ pub(crate) struct Middle {
     pub(crate) entry: Entry,
 }
 
-impl Window {
-    /// The window of all places between these.
-    pub(crate) fn between(list: &Lent, low: u32, high: u32) -> Window
+impl Interval {
+    /// The interval of all places between these.
+    pub(crate) fn between(list: &Lent, low: u32, high: u32) -> Interval
         requires { high ≤ length (entries_of list.now.chunks.now) }
-        ensures window { IsWindow list.now.chunks.now result }
+        ensures interval { IsInterval list.now.chunks.now result }
         ensures low { result.low ≡ low }
         ensures high { result.high ≡ high }
     {
-        Window {
+        Interval {
             first: 0,
             last: list.chunks.len(),
             start: 0,
@@ -62,7 +62,7 @@ impl Window {
     /// The middle one of the chunks by its first entry, or the middle entry where one chunk is left.
     pub(crate) fn middle(self, list: &Lent) -> Middle
         requires lent { AreLent list.now.chunks.now list.now.starts.now }
-        requires window { IsWindow list.now.chunks.now self }
+        requires interval { IsInterval list.now.chunks.now self }
         requires open { self.low < self.high }
         ensures { IsMiddle list.now.chunks.now self result }
     {
@@ -89,10 +89,10 @@ impl Window {
     }
 
     /// The part before the middle.
-    pub(crate) fn before(self, middle: Middle) -> Window
+    pub(crate) fn before(self, middle: Middle) -> Interval
         ensures { result ≡ before_middle self middle }
     {
-        Window {
+        Interval {
             last: middle.end,
             high: self.high.min(middle.place),
             ..self
@@ -100,11 +100,11 @@ impl Window {
     }
 
     /// The part behind the middle.
-    pub(crate) fn behind(self, middle: Middle) -> Window
+    pub(crate) fn behind(self, middle: Middle) -> Interval
         requires { middle.place < most_rows }
         ensures { result ≡ behind_middle self middle }
     {
-        Window {
+        Interval {
             first: middle.chunk,
             start: middle.start,
             low: self.low.max(middle.place + 1),

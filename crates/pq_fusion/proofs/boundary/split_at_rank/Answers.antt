@@ -1,44 +1,44 @@
 use Rattle.std.proofs.Common.{◌≡◌, ◌-◌, ◌≤◌, ◌∙◌, true, false, ap, arith, length, min, subst, sym}
 use Rattle.retro_base.specs.EntriesInOrder.{AreInOrder}
-use Rattle.pq_fusion.proofs.Sought.{IsCutting, cut_by_first, cut_by_second, cutting_before, cutting_behind, cutting_other_before, cutting_other_behind, cutting_starts, is_closed}
-use Rattle.pq_fusion.proofs.boundary.cut.Goals as goal
-use Rattle.pq_fusion.proofs.boundary.cut.Goals.{then-halve-test+else-is_open, else-halve-test}
+use Rattle.pq_fusion.proofs.Sought.{IsSplitting, split_by_first, split_by_second, splitting_before, splitting_behind, splitting_other_before, splitting_other_behind, splitting_starts, is_closed}
+use Rattle.pq_fusion.proofs.boundary.split_at_rank.Goals as goal
+use Rattle.pq_fusion.proofs.boundary.split_at_rank.Goals.{then-halve-test+else-is_open, else-halve-test}
 
 pub halve-init : goal.halve-init
 halve-init g c =
     let first_length = c.len-own_len.ensures.count ∙ ap length (sym c.lent-first.ensures.entries) in
     let second_length = c.len-other_len.ensures.count ∙ ap length (sym c.lent-second.ensures.entries) in
-    cutting_starts c.lent-first.result.chunks.now c.lent-second.result.chunks.now c.lent-first.result.starts.now c.lent-second.result.starts.now c.args.rank c.between-own.result c.between-other.result c.args.steps.now
+    splitting_starts c.lent-first.result.chunks.now c.lent-second.result.chunks.now c.lent-first.result.starts.now c.lent-second.result.starts.now c.args.rank c.between-own.result c.between-other.result c.args.steps.now
     (subst AreInOrder (sym c.lent-first.ensures.entries) c.len-own_len.ensures.order) (subst AreInOrder (sym c.lent-second.ensures.entries) c.len-other_len.ensures.order)
-    (omega (arith, c.requires.within, first_length, second_length, c.len-own_len.ensures.count, c.len-other_len.ensures.count)) c.lent-first.ensures.lent c.lent-second.ensures.lent c.between-own.ensures.window c.between-other.ensures.window
+    (omega (arith, c.requires.within, first_length, second_length, c.len-own_len.ensures.count, c.len-other_len.ensures.count)) c.lent-first.ensures.lent c.lent-second.ensures.lent c.between-own.ensures.interval c.between-other.ensures.interval
     (c.between-own.ensures.low ∙ c.saturating_sub.ensures ∙ ap (λ n. c.args.rank - n) second_length) (c.between-own.ensures.high ∙ c.min.ensures ∙ ap (min c.args.rank) first_length)
     (c.between-other.ensures.low ∙ c.saturating_sub-2.ensures ∙ ap (λ n. c.args.rank - n) first_length) (c.between-other.ensures.high ∙ c.min-2.ensures ∙ ap (min c.args.rank) second_length)
 
 pub halve-preserved-then-one-two : goal.halve-preserved-then-one-two
 halve-preserved-then-one-two g c =
-    subst (λ w. IsCutting c.lent-first.result.chunks.now c.lent-second.result.chunks.now c.args.rank w c.halve.other c.args.steps.now c.tick.new.self) (sym c.before-own.ensures)
-    (cutting_before c.lent-first.result.chunks.now c.lent-second.result.chunks.now c.args.rank c.halve.own c.halve.other c.args.steps.now c.halve.steps c.tick.new.self c.middle-one.result c.middle-two.result
+    subst (λ w. IsSplitting c.lent-first.result.chunks.now c.lent-second.result.chunks.now c.args.rank w c.halve.other c.args.steps.now c.tick.new.self) (sym c.before-own.ensures)
+    (splitting_before c.lent-first.result.chunks.now c.lent-second.result.chunks.now c.args.rank c.halve.own c.halve.other c.args.steps.now c.halve.steps c.tick.new.self c.middle-one.result c.middle-two.result
     (subst AreInOrder (sym c.lent-first.ensures.entries) c.len-own_len.ensures.order) (subst AreInOrder (sym c.lent-second.ensures.entries) c.len-other_len.ensures.order)
     c.halve.invariant c.middle-one.ensures c.middle-two.ensures c.tick.ensures (sym c.comes_before.ensures ∙ c.if-comes_before.true) c.if-one-two.true)
 
 pub halve-preserved-else-one-two : goal.halve-preserved-else-one-two
 halve-preserved-else-one-two g c =
-    subst (λ w. IsCutting c.lent-first.result.chunks.now c.lent-second.result.chunks.now c.args.rank c.halve.own w c.args.steps.now c.tick.new.self) (sym c.behind-other.ensures)
-    (cutting_other_behind c.lent-first.result.chunks.now c.lent-second.result.chunks.now c.args.rank c.halve.own c.halve.other c.args.steps.now c.halve.steps c.tick.new.self c.middle-one.result c.middle-two.result
+    subst (λ w. IsSplitting c.lent-first.result.chunks.now c.lent-second.result.chunks.now c.args.rank c.halve.own w c.args.steps.now c.tick.new.self) (sym c.behind-other.ensures)
+    (splitting_other_behind c.lent-first.result.chunks.now c.lent-second.result.chunks.now c.args.rank c.halve.own c.halve.other c.args.steps.now c.halve.steps c.tick.new.self c.middle-one.result c.middle-two.result
     (subst AreInOrder (sym c.lent-first.ensures.entries) c.len-own_len.ensures.order) (subst AreInOrder (sym c.lent-second.ensures.entries) c.len-other_len.ensures.order)
     c.halve.invariant c.middle-one.ensures c.middle-two.ensures c.tick.ensures (sym c.comes_before.ensures ∙ c.if-comes_before.true) c.if-one-two.false)
 
 pub halve-preserved-then-one-two-2 : goal.halve-preserved-then-one-two-2
 halve-preserved-then-one-two-2 g c =
-    subst (λ w. IsCutting c.lent-first.result.chunks.now c.lent-second.result.chunks.now c.args.rank c.halve.own w c.args.steps.now c.tick.new.self) (sym c.before-other.ensures)
-    (cutting_other_before c.lent-first.result.chunks.now c.lent-second.result.chunks.now c.args.rank c.halve.own c.halve.other c.args.steps.now c.halve.steps c.tick.new.self c.middle-one.result c.middle-two.result
+    subst (λ w. IsSplitting c.lent-first.result.chunks.now c.lent-second.result.chunks.now c.args.rank c.halve.own w c.args.steps.now c.tick.new.self) (sym c.before-other.ensures)
+    (splitting_other_before c.lent-first.result.chunks.now c.lent-second.result.chunks.now c.args.rank c.halve.own c.halve.other c.args.steps.now c.halve.steps c.tick.new.self c.middle-one.result c.middle-two.result
     (subst AreInOrder (sym c.lent-first.ensures.entries) c.len-own_len.ensures.order) (subst AreInOrder (sym c.lent-second.ensures.entries) c.len-other_len.ensures.order)
     c.halve.invariant c.middle-one.ensures c.middle-two.ensures c.tick.ensures (sym c.comes_before.ensures ∙ c.if-comes_before.false) c.if-one-two-2.true)
 
 pub halve-preserved : goal.halve-preserved
 halve-preserved g c =
-    subst (λ w. IsCutting c.lent-first.result.chunks.now c.lent-second.result.chunks.now c.args.rank w c.halve.other c.args.steps.now c.tick.new.self) (sym c.behind-own.ensures)
-    (cutting_behind c.lent-first.result.chunks.now c.lent-second.result.chunks.now c.args.rank c.halve.own c.halve.other c.args.steps.now c.halve.steps c.tick.new.self c.middle-one.result c.middle-two.result
+    subst (λ w. IsSplitting c.lent-first.result.chunks.now c.lent-second.result.chunks.now c.args.rank w c.halve.other c.args.steps.now c.tick.new.self) (sym c.behind-own.ensures)
+    (splitting_behind c.lent-first.result.chunks.now c.lent-second.result.chunks.now c.args.rank c.halve.own c.halve.other c.args.steps.now c.halve.steps c.tick.new.self c.middle-one.result c.middle-two.result
     (subst AreInOrder (sym c.lent-first.ensures.entries) c.len-own_len.ensures.order) (subst AreInOrder (sym c.lent-second.ensures.entries) c.len-other_len.ensures.order)
     c.halve.invariant c.middle-one.ensures c.middle-two.ensures c.tick.ensures (sym c.comes_before.ensures ∙ c.if-comes_before.false) c.if-one-two-2.false)
 
@@ -48,7 +48,7 @@ returns-then-is_open-2-clause-lesser g c =
       | then-halve-test+else-is_open w ↦ is_closed c.halve.other w.is_open-in-halve.result w.is_open-in-halve.ensures w.if-is_open.false
       | else-halve-test w ↦ let wrong : false ≡ true = sym w.halve-test.false ∙ c.is_open.ensures ∙ sym c.is_open-2.ensures ∙ c.if-is_open-2.true in absurd (cc)
     ] in
-    (cut_by_second c.lent-first.result.chunks.now c.lent-second.result.chunks.now c.args.first.now c.args.second.now c.args.rank c.halve.own c.halve.other c.args.steps.now c.halve.steps
+    (split_by_second c.lent-first.result.chunks.now c.lent-second.result.chunks.now c.args.first.now c.args.second.now c.args.rank c.halve.own c.halve.other c.args.steps.now c.halve.steps
     c.lent-first.ensures.entries c.lent-second.ensures.entries c.halve.invariant over).lesser
 
 pub returns-then-is_open-2-clause-greater : goal.returns-then-is_open-2-clause-greater
@@ -57,10 +57,10 @@ returns-then-is_open-2-clause-greater g c =
       | then-halve-test+else-is_open w ↦ is_closed c.halve.other w.is_open-in-halve.result w.is_open-in-halve.ensures w.if-is_open.false
       | else-halve-test w ↦ let wrong : false ≡ true = sym w.halve-test.false ∙ c.is_open.ensures ∙ sym c.is_open-2.ensures ∙ c.if-is_open-2.true in absurd (cc)
     ] in
-    (cut_by_second c.lent-first.result.chunks.now c.lent-second.result.chunks.now c.args.first.now c.args.second.now c.args.rank c.halve.own c.halve.other c.args.steps.now c.halve.steps
+    (split_by_second c.lent-first.result.chunks.now c.lent-second.result.chunks.now c.args.first.now c.args.second.now c.args.rank c.halve.own c.halve.other c.args.steps.now c.halve.steps
     c.lent-first.ensures.entries c.lent-second.ensures.entries c.halve.invariant over).greater
 
 pub returns-else-is_open-2-clause-greater : goal.returns-else-is_open-2-clause-greater
 returns-else-is_open-2-clause-greater g c =
-    (cut_by_first c.lent-first.result.chunks.now c.lent-second.result.chunks.now c.args.first.now c.args.second.now c.args.rank c.halve.own c.halve.other c.args.steps.now c.halve.steps
+    (split_by_first c.lent-first.result.chunks.now c.lent-second.result.chunks.now c.args.first.now c.args.second.now c.args.rank c.halve.own c.halve.other c.args.steps.now c.halve.steps
     c.lent-first.ensures.entries c.lent-second.ensures.entries c.halve.invariant (is_closed c.halve.own c.is_open-2.result c.is_open-2.ensures c.if-is_open-2.false)).greater

@@ -1,13 +1,13 @@
--- The middle of a window in a list of chunks.
+-- The middle of an interval in a list of chunks.
 use Rattle.std.proofs.Common.{◌≡◌, ℕ, zero, suc, ◌+◌, ◌-◌, ◌/◌, ◌<◌, ◌≤◌, inl, inr, List, [], ◌∷◌, ◌++◌, length, take, drop, get_or, refl, ap, sym, ◌∙◌, arith, length-append, add-one, Some}
 use Rattle.std.specs.Prelude.{Vec, slice_get}
 use Rattle.std.proofs.lemmas.Option.{slice_get_read}
 use Rattle.retro_base.specs.declared.row.Entry.{Entry}
 use Rattle.pq_fusion.specs.declared.bound.Bound.TheVariants.{At}
-use Rattle.pq_fusion.specs.declared.window.Window.{Window}
+use Rattle.pq_fusion.specs.declared.interval.Interval.{Interval}
 use Rattle.pq_fusion.specs.Bounds.{at_rank}
 use Rattle.pq_fusion.specs.Chunks.{IsChunk, entries_of, starts_of}
-use Rattle.pq_fusion.specs.Windows.{AreLent, IsMiddle, IsWindow, before_chunk}
+use Rattle.pq_fusion.specs.Intervals.{AreLent, IsMiddle, IsInterval, before_chunk}
 use Rattle.pq_fusion.proofs.Chunked.{around, chunk_at, starts_length}
 use Rattle.pq_fusion.proofs.Begun.{start_at}
 
@@ -55,14 +55,14 @@ module _ {A : Type 0} where
       length-append chunk.items (entries_of (drop (suc place) chunks)),
     )
 
-  module _ (chunks : List (Vec Entry A)) (starts : List ℕ) (window : Window) (lent : AreLent chunks starts) (sound : IsWindow chunks window) (open_here : window.low < window.high) where
+  module _ (chunks : List (Vec Entry A)) (starts : List ℕ) (interval : Interval) (lent : AreLent chunks starts) (sound : IsInterval chunks interval) (open_here : interval.low < interval.high) where
     -- several chunks are left: the middle one
-    pub start_inside : (place : ℕ) → 1 < window.last - window.first → place ≡ window.first + (window.last - window.first) / 2 → place < length starts
+    pub start_inside : (place : ℕ) → 1 < interval.last - interval.first → place ≡ interval.first + (interval.last - interval.first) / 2 → place < length starts
     start_inside place many place_is =
         let counted : starts ≡ starts_of 0 chunks = lent.counted (omega (arith, many, sound.within)) in
         omega (arith, place_is, many, sound.within, ap length counted, starts_length chunks 0)
 
-    module _ (place start : ℕ) (chunk : Vec Entry A) (e : Entry) (many : 1 < window.last - window.first) (place_is : place ≡ window.first + (window.last - window.first) / 2)
+    module _ (place start : ℕ) (chunk : Vec Entry A) (e : Entry) (many : 1 < interval.last - interval.first) (place_is : place ≡ interval.first + (interval.last - interval.first) / 2)
         (start_is : start ≡ get_or starts place 0) (read : chunk ≡ get_or chunks place chunk)
         (entry_is : e ≡ get_or (get_or chunks place chunk).items 0 e) where
       inside : place < length chunks
@@ -79,7 +79,7 @@ module _ {A : Type 0} where
           let counted : starts ≡ starts_of 0 chunks = lent.counted (omega (arith, many, sound.within)) in
           omega (arith, start_is, ap (λ xs. get_or xs place 0) counted, start_at chunks 0 place inside)
 
-      pub among_middle : IsMiddle chunks window (record { chunk = place; end = place; start = start; place = start; entry = e })
+      pub among_middle : IsMiddle chunks interval (record { chunk = place; end = place; start = start; place = start; entry = e })
       among_middle = record {
         there = in_chunk chunks place 0 start chunk e there own.0 (omega (arith, start_here)) ∙ ap At (ap (λ (v : Vec Entry A). get_or v.items 0 e) read ∙ sym entry_is);
         inside = in_all chunks place 0 start chunk e there own.0 (omega (arith, start_here));
@@ -102,28 +102,28 @@ module _ {A : Type 0} where
       }
 
     -- one is left: the middle of its places
-    module _ (place : ℕ) (chunk : Vec Entry A) (e : Entry) (one : window.last - window.first ≤ 1) (place_is : place ≡ window.low + (window.high - window.low) / 2)
-        (read : chunk ≡ get_or chunks window.first chunk) (entry_is : e ≡ get_or (get_or chunks window.first chunk).items (place - window.start) e) where
-      last_is : window.last ≡ window.first + 1
+    module _ (place : ℕ) (chunk : Vec Entry A) (e : Entry) (one : interval.last - interval.first ≤ 1) (place_is : place ≡ interval.low + (interval.high - interval.low) / 2)
+        (read : chunk ≡ get_or chunks interval.first chunk) (entry_is : e ≡ get_or (get_or chunks interval.first chunk).items (place - interval.start) e) where
+      last_is : interval.last ≡ interval.first + 1
       last_is = omega (arith, one, sound.some open_here)
 
-      first_there : slice_get chunks window.first ≡ Some chunk
-      first_there = slice_get_read chunks (length chunks) window.first chunk refl (omega (arith, last_is, sound.within)) read
+      first_there : slice_get chunks interval.first ≡ Some chunk
+      first_there = slice_get_read chunks (length chunks) interval.first chunk refl (omega (arith, last_is, sound.within)) read
 
-      end_is : before_chunk chunks window.last ≡ window.start + length chunk.items
-      end_is = ap (before_chunk chunks) last_is ∙ next_chunk chunks window.first chunk first_there ∙ ap (λ n. n + length chunk.items) (sym sound.start_is)
+      end_is : before_chunk chunks interval.last ≡ interval.start + length chunk.items
+      end_is = ap (before_chunk chunks) last_is ∙ next_chunk chunks interval.first chunk first_there ∙ ap (λ n. n + length chunk.items) (sym sound.start_is)
 
-      place_from : window.start ≤ place
+      place_from : interval.start ≤ place
       place_from = omega (arith, place_is, sound.from)
 
-      place_inside : place - window.start < length chunk.items
+      place_inside : place - interval.start < length chunk.items
       place_inside = omega (arith, place_is, open_here, end_is, sound.from, sound.to)
 
-      pub within_middle : IsMiddle chunks window (record { chunk = window.first; end = window.last; start = window.start; place = place; entry = e })
+      pub within_middle : IsMiddle chunks interval (record { chunk = interval.first; end = interval.last; start = interval.start; place = place; entry = e })
       within_middle = record {
-        there = in_chunk chunks window.first (place - window.start) place chunk e first_there place_inside (omega (arith, place_from, sound.start_is))
-            ∙ ap At (ap (λ (v : Vec Entry A). get_or v.items (place - window.start) e) read ∙ sym entry_is);
-        inside = in_all chunks window.first (place - window.start) place chunk e first_there place_inside (omega (arith, place_from, sound.start_is));
+        there = in_chunk chunks interval.first (place - interval.start) place chunk e first_there place_inside (omega (arith, place_from, sound.start_is))
+            ∙ ap At (ap (λ (v : Vec Entry A). get_or v.items (place - interval.start) e) read ∙ sym entry_is);
+        inside = in_all chunks interval.first (place - interval.start) place chunk e first_there place_inside (omega (arith, place_from, sound.start_is));
         before = record {
           some = λ more. sound.some open_here;
           within = sound.within;
