@@ -16,7 +16,7 @@ use retro_base::{NoMemory, PackedRow, Row};
 use weighted_tree::uncounted;
 
 /// Puts a row in at a place. After `NoMemory` the rows are as before.
-pub(crate) fn put_in(kept: &mut IndexedRows, place: u32, row: Row) -> Result<(), NoMemory>
+pub(crate) fn insert_row(kept: &mut IndexedRows, place: u32, row: Row) -> Result<(), NoMemory>
     requires kept { KeepsRows kept.old }
     requires comes { MayCome kept.old.rows place row }
     ensures kept { KeepsRows kept.new }
@@ -25,7 +25,7 @@ pub(crate) fn put_in(kept: &mut IndexedRows, place: u32, row: Row) -> Result<(),
 {
     first_run(kept)?;
     let roomy = run_with_room(kept, place)?;
-    put_in_run(kept, roomy, place, row)
+    insert_row_in_run(kept, roomy, place, row)
 }
 
 /// The index of a run that has room for a row more, and how many rows it has.
@@ -80,7 +80,12 @@ fn run_with_room(kept: &mut IndexedRows, place: u32) -> Result<RoomyRun, NoMemor
 }
 
 /// Puts a row in at a place, in a run that has room for it.
-fn put_in_run(kept: &mut IndexedRows, roomy: RoomyRun, place: u32, row: Row) -> Result<(), NoMemory>
+fn insert_row_in_run(
+    kept: &mut IndexedRows,
+    roomy: RoomyRun,
+    place: u32,
+    row: Row,
+) -> Result<(), NoMemory>
     requires kept { KeepsRows kept.old }
     requires comes { MayCome kept.old.rows place row }
     requires run { TakesRow kept.old.runs roomy.run place }
@@ -101,7 +106,7 @@ fn put_in_run(kept: &mut IndexedRows, roomy: RoomyRun, place: u32, row: Row) -> 
 }
 
 /// Takes the row at a place out, and gives it back.
-pub(crate) fn take_out(kept: &mut IndexedRows, place: u32) -> Row
+pub(crate) fn remove_row(kept: &mut IndexedRows, place: u32) -> Row
     requires kept { KeepsRows kept.old }
     requires within { place < length kept.old.rows }
     ensures kept { KeepsRows kept.new }

@@ -73,7 +73,7 @@ impl Names {
         ensures ok { IfOk result (λ name. self.new ≡ insert self.old place name) }
         ensures err { OnErr result (self.new ≡ self.old) }
     {
-        put_in(&mut self.names, &mut self.labels, &mut self.table, place)
+        insert_name(&mut self.names, &mut self.labels, &mut self.table, place)
     }
 
     /// Takes the name at a place out.
@@ -105,7 +105,7 @@ fn find(
     }
 }
 
-fn put_in(
+fn insert_name(
     names: &mut Tree<Counted<RunName>>,
     labels: &mut Labels,
     table: &mut Table,

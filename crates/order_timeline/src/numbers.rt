@@ -84,7 +84,7 @@ impl Numbers {
     }
 
     /// Takes the name of a number out for which there is room.
-    fn take_out(&mut self, number: u32)
+    fn remove_name(&mut self, number: u32)
         requires { HasPlace self.old number }
         ensures { Changes self.old self.new number None }
     {
@@ -114,7 +114,7 @@ pub(crate) fn forget(numbers: &mut Numbers, number: u32)
     ensures { Changes numbers.old numbers.new number None }
 {
     if numbers.get(number).is_some() {
-        numbers.take_out(number);
+        numbers.remove_name(number);
     }
 }
 

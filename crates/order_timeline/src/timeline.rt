@@ -8,7 +8,7 @@ ghost use Rattle.retro_base.specs.Places.{place_of_row, place_of_time};
 ghost use Rattle.retro_base.specs.Timeline.{IsFresh};
 ghost use Rattle.order_timeline.specs.Rows.{IsOrdered};
 
-use crate::edit::{put_in, take_out};
+use crate::edit::{insert_row, remove_row};
 use crate::find::{place_of, read_from, rows_up_to};
 use crate::indexed_rows::IndexedRows;
 use retro_base::{NoMemory, Row};
@@ -96,7 +96,7 @@ impl Timeline {
         ensures ok { OnOk result (self.new ≡ insert self.old place row) }
         ensures err { OnErr result (self.new ≡ self.old) }
     {
-        put_in(&mut self.kept, place, row)
+        insert_row(&mut self.kept, place, row)
     }
 
     /// Takes the row at a place out, and gives it back.
@@ -105,6 +105,6 @@ impl Timeline {
         ensures row { slice_get self.old place ≡ Some result }
         ensures rows { self.new ≡ remove self.old place }
     {
-        take_out(&mut self.kept, place)
+        remove_row(&mut self.kept, place)
     }
 }

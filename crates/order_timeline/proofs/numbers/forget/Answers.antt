@@ -2,5 +2,5 @@ use Rattle.std.proofs.Common.{IsSome, subst, sym, ◌∙◌}
 use Rattle.order_timeline.proofs.Pages.{has_place}
 use Rattle.order_timeline.proofs.numbers.forget.Goals as goal
 
-pub take_out-requires : goal.take_out-requires
-take_out-requires c = has_place c.args.numbers.now c.args.number (subst IsSome c.get.ensures (sym c.is_some.ensures ∙ c.if-is_some.true))
+pub remove_name-requires : goal.remove_name-requires
+remove_name-requires c = has_place c.args.numbers.now c.args.number (subst IsSome c.get.ensures (sym c.is_some.ensures ∙ c.if-is_some.true))

@@ -1,6 +1,6 @@
 use Rattle.std.proofs.Common.{None}
 use Rattle.order_timeline.proofs.Pages.{page_changed}
-use Rattle.order_timeline.proofs.numbers.Numbers.take_out.Goals as goal
+use Rattle.order_timeline.proofs.numbers.Numbers.remove_name.Goals as goal
 
 pub returns : goal.returns
 returns c =

@@ -3,7 +3,7 @@ use Rattle.std.specs.List.{insert, remove, AllByRecursion}
 use Rattle.order_timeline.specs.Names.{AreDistinct}
 use Rattle.retro_base.specs.EditedLists.{remove-insert}
 use Rattle.order_timeline.proofs.Filed.{filed_is, filed_longer, filed_with, added_name, all_known, distinct_with}
-use Rattle.order_timeline.proofs.names.put_in.Goals as goal
+use Rattle.order_timeline.proofs.names.insert_name.Goals as goal
 
 pub returns-in_err-insert-clause-filed : goal.returns-in_err-insert-clause-filed
 returns-in_err-insert-clause-filed c =

@@ -5,7 +5,7 @@ use Rattle.order_timeline.specs.Rows.{IsOrdered}
 use Rattle.order_timeline.proofs.InRuns.{all_rows, read_index, in_runs_without, in_runs_gone}
 use Rattle.order_timeline.proofs.FilledRuns.{filled_gone, filled_less}
 use Rattle.order_timeline.proofs.Rows.{ordered_without}
-use Rattle.order_timeline.proofs.edit.take_out.Goals as goal
+use Rattle.order_timeline.proofs.edit.remove_row.Goals as goal
 
 pub run_of-run-requires : goal.run_of-run-requires
 run_of-run-requires c = omega (arith, all_rows c.args.kept.now.rows c.args.kept.now.runs c.args.kept.now.names c.args.kept.now.numbers c.requires.kept.in_runs, c.requires.within)

@@ -2,7 +2,7 @@ use Rattle.std.proofs.Common.{Some, None, ◌∙◌, arith}
 use Rattle.order_timeline.proofs.InRuns.{all_rows, kept_put, kept_again, ok_from, err_from}
 use Rattle.order_timeline.proofs.Maps.{twice}
 use Rattle.order_timeline.proofs.Totals.{run_within}
-use Rattle.order_timeline.proofs.edit.put_in_run.Goals as goal
+use Rattle.order_timeline.proofs.edit.insert_row_in_run.Goals as goal
 
 pub overflow_add-count : goal.overflow_add-count
 overflow_add-count c =
