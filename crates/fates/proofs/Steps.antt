@@ -121,9 +121,9 @@ own_on (Del k) number time count before state adding ready e = absurd (cc)
 own_on DelMin number time count before state adding ready e = absurd (cc)
 
 -- right after its own row it stands where the count says
-pub put_in : (own : Row) (count : ℕ) (before state : State) → adds own.op ≡ true → Ready own count before → step (numbered own) before ≡ Some state
+pub own_stands : (own : Row) (count : ℕ) (before state : State) → adds own.op ≡ true → Ready own count before → step (numbered own) before ≡ Some state
     → Stands (standing_of own count) own.number state
-put_in own count before state adding ready e = own_on own.op own.number own.time count before state adding ready e
+own_stands own count before state adding ready e = own_on own.op own.number own.time count before state adding ready e
 
 -- Before the first row nothing is there.
 ready_first : (op : Op) (number : ℕ) → adds op ≡ true → ReadyFor op number 0 (empty (kind_of op))
@@ -172,7 +172,7 @@ count_up own row count n few = elim (adds row.op) as (λ b. cond b (cond (counts
 pub stands_first : (rows : List Row) (place count : ℕ) (own : Row) → IsReplayable (kind_of own.op) rows → slice_get rows place ≡ Some own → adds own.op ≡ true
     → Ready own count (holders (kind_of own.op) rows place) → Stands (standing_of own count) own.number (holders (kind_of own.op) rows (suc place))
 stands_first rows place count own replayable here adding ready =
-    put_in own count (holders (kind_of own.op) rows place) (holders (kind_of own.op) rows (suc place)) adding ready
+    own_stands own count (holders (kind_of own.op) rows place) (holders (kind_of own.op) rows (suc place)) adding ready
     (holders_next (kind_of own.op) rows place own replayable.of_kind replayable.valid here)
 
 few_by : (op : Op) (number count n : ℕ) → count ≤ n → IsUpTo (standing_by op number count) n
