@@ -1,4 +1,4 @@
--- A row more cuts one lifetime of those that begin before it, and leaves all others as they are.
+-- A row more ends one lifetime of those that begin before it, and leaves all others as they are.
 use Rattle.std.proofs.Common.{◌≡◌, ℕ, ℤ, false, cond, Option, Some, None, List, [], ◌∷◌, ◌++◌, refl, sym, ap, ◌∙◌, arith, subst, inl, inr, append_assoc}
 use Rattle.std.specs.List.{filter}
 use Rattle.std.specs.Option.{option_or, option_and_then}
@@ -80,8 +80,8 @@ module _ (new : KeyRow) (after : List KeyRow) where
   abbrev k : ℤ
   k = key_of new.1
 
-  -- the pair that the row cuts, and all else
-  pub record IsCut (front : List KeyRow) (left : Option KeyRow) : Type 0 where
+  -- the pair whose lifetime the row ends, and all else
+  pub record IsEnded (front : List KeyRow) (left : Option KeyRow) : Type 0 where
     pub others : List (Lifetime (ℤ × ℤ))
     pub without_row : HaveSameItems (fronts front after) (up_to_label (option_and_then placed_by left) (end_of k after) ++ others)
     pub with_row : HaveSameItems (fronts front (new ∷ after)) (up_to_label (option_and_then placed_by left) new.0 ++ others)
@@ -92,13 +92,13 @@ module _ (new : KeyRow) (after : List KeyRow) where
   begun-same from (Some pair) front same = ap (λ n. lifetime from n pair ∷ []) (same pair refl)
 
   -- a row whose lifetime stays as it was
-  kept : (row : KeyRow) (front : List KeyRow) (left : Option KeyRow) → begun row.0 (put_by row.1) (front ++ new ∷ after) ≡ begun row.0 (put_by row.1) (front ++ after) → IsCut front left → IsCut (row ∷ front) left
-  kept row front left same cut =
+  kept : (row : KeyRow) (front : List KeyRow) (left : Option KeyRow) → begun row.0 (put_by row.1) (front ++ new ∷ after) ≡ begun row.0 (put_by row.1) (front ++ after) → IsEnded front left → IsEnded (row ∷ front) left
+  kept row front left same ended =
       let own = begun row.0 (put_by row.1) (front ++ after) in
       record {
-        others = own ++ cut.others;
-        without_row = among own (fronts front after) (up_to_label (option_and_then placed_by left) (end_of k after)) cut.others cut.without_row;
-        with_row = rw same (among own (fronts front (new ∷ after)) (up_to_label (option_and_then placed_by left) new.0) cut.others cut.with_row);
+        others = own ++ ended.others;
+        without_row = among own (fronts front after) (up_to_label (option_and_then placed_by left) (end_of k after)) ended.others ended.without_row;
+        with_row = rw same (among own (fronts front (new ∷ after)) (up_to_label (option_and_then placed_by left) new.0) ended.others ended.with_row);
       } where
         among : (own all one others : List (Lifetime (ℤ × ℤ))) → HaveSameItems all (one ++ others) → HaveSameItems (own ++ all) (one ++ (own ++ others))
         among own all one others is = record {
@@ -114,42 +114,42 @@ module _ (new : KeyRow) (after : List KeyRow) where
         }
 
   -- the last row on the key of the new one
-  cut_by : (row : KeyRow) (front : List KeyRow) (put : Option (ℤ × ℤ)) → put_by row.1 ≡ put → key_of row.1 ≡ k → last_on k front ≡ None → IsCut front None → IsCut (row ∷ front) (Some row)
-  cut_by row front None puts on none cut = record {
-    others = cut.others;
-    without_row = rw puts cut.without_row;
-    with_row = rw puts cut.with_row;
+  ends_by : (row : KeyRow) (front : List KeyRow) (put : Option (ℤ × ℤ)) → put_by row.1 ≡ put → key_of row.1 ≡ k → last_on k front ≡ None → IsEnded front None → IsEnded (row ∷ front) (Some row)
+  ends_by row front None puts on none ended = record {
+    others = ended.others;
+    without_row = rw puts ended.without_row;
+    with_row = rw puts ended.with_row;
   }
-  cut_by row front (Some pair) puts on none cut =
+  ends_by row front (Some pair) puts on none ended =
       let same_key : pair.0 ≡ k = sym (put_key row.1 pair puts) ∙ on in
       let ends : end_of pair.0 (front ++ after) ≡ end_of k after = ap (λ key. end_of key (front ++ after)) same_key ∙ end-after k front after none in
-      let cuts : end_of pair.0 (front ++ new ∷ after) ≡ new.0 = ap (λ key. end_of key (front ++ new ∷ after)) same_key ∙ end-after k front (new ∷ after) none
+      let ends_here : end_of pair.0 (front ++ new ∷ after) ≡ new.0 = ap (λ key. end_of key (front ++ new ∷ after)) same_key ∙ end-after k front (new ∷ after) none
       ∙ ap (λ b. cond b new.0 (end_of k after)) (int_eq_equiv.refl k) in
       record {
-        others = cut.others;
+        others = ended.others;
         without_row = rw puts (rw ends (same-append (lifetime row.0 (end_of k after) pair ∷ []) (lifetime row.0 (end_of k after) pair ∷ [])
-            (fronts front after) cut.others (same-refl (lifetime row.0 (end_of k after) pair ∷ [])) cut.without_row));
-        with_row = rw puts (rw cuts (same-append (lifetime row.0 new.0 pair ∷ []) (lifetime row.0 new.0 pair ∷ []) (fronts front (new ∷ after)) cut.others (same-refl (lifetime row.0 new.0 pair ∷ [])) cut.with_row));
+            (fronts front after) ended.others (same-refl (lifetime row.0 (end_of k after) pair ∷ [])) ended.without_row));
+        with_row = rw puts (rw ends_here (same-append (lifetime row.0 new.0 pair ∷ []) (lifetime row.0 new.0 pair ∷ []) (fronts front (new ∷ after)) ended.others (same-refl (lifetime row.0 new.0 pair ∷ [])) ended.with_row));
       }
 
   -- a row on the key, with another one on it after
-  cut_on : (row : KeyRow) (front : List KeyRow) (last : Option KeyRow) → last_on k front ≡ last → key_of row.1 ≡ k → IsCut front last → IsCut (row ∷ front) (option_or last (Some row))
-  cut_on row front None is on cut = cut_by row front (put_by row.1) refl on is cut
-  cut_on row front (Some later) is on cut =
+  ends_on : (row : KeyRow) (front : List KeyRow) (last : Option KeyRow) → last_on k front ≡ last → key_of row.1 ≡ k → IsEnded front last → IsEnded (row ∷ front) (option_or last (Some row))
+  ends_on row front None is on ended = ends_by row front (put_by row.1) refl on is ended
+  ends_on row front (Some later) is on ended =
       kept row front (Some later) (begun-same row.0 (put_by row.1) front (λ pair puts.
       let same_key : pair.0 ≡ k = sym (put_key row.1 pair puts) ∙ on in
-      rw same_key (end-found k front (new ∷ after) after later is))) cut
+      rw same_key (end-found k front (new ∷ after) after later is))) ended
 
-  pub cut : (front : List KeyRow) → IsCut front (last_on k front)
-  cut [] = record { others = []; without_row = same-refl []; with_row = same-refl [] }
-  cut (row ∷ front) = elim (cases_Bool (is_on k row)) [
+  pub ends_one : (front : List KeyRow) → IsEnded front (last_on k front)
+  ends_one [] = record { others = []; without_row = same-refl []; with_row = same-refl [] }
+  ends_one (row ∷ front) = elim (cases_Bool (is_on k row)) [
     | inl on ↦
-        subst (IsCut (row ∷ front)) (sym (ap (λ b. last_of (cond b (row ∷ filter (is_on k) front) (filter (is_on k) front))) on))
-        (cut_on row front (last_on k front) refl ((Decides-int_eq (key_of row.1) k).0 on) (cut front))
+        subst (IsEnded (row ∷ front)) (sym (ap (λ b. last_of (cond b (row ∷ filter (is_on k) front) (filter (is_on k) front))) on))
+        (ends_on row front (last_on k front) refl ((Decides-int_eq (key_of row.1) k).0 on) (ends_one front))
     | inr off ↦
-        subst (IsCut (row ∷ front)) (sym (ap (λ b. last_of (cond b (row ∷ filter (is_on k) front) (filter (is_on k) front))) off))
+        subst (IsEnded (row ∷ front)) (sym (ap (λ b. last_of (cond b (row ∷ filter (is_on k) front) (filter (is_on k) front))) off))
         (kept row front (last_on k front) (begun-same row.0 (put_by row.1) front (λ pair puts.
-        end-other pair.0 front new after (ap (int_eq k) (sym (put_key row.1 pair puts)) ∙ (int_eq_equiv.symm k (key_of row.1) ∙ off)))) (cut front))
+        end-other pair.0 front new after (ap (int_eq k) (sym (put_key row.1 pair puts)) ∙ (int_eq_equiv.symm k (key_of row.1) ∙ off)))) (ends_one front))
   ]
 
   -- the lifetimes with the row and without it
@@ -160,7 +160,7 @@ module _ (new : KeyRow) (after : List KeyRow) where
 
   pub edited : (front : List KeyRow) → IsEdited front
   edited front =
-      let part = cut front in
+      let part = ends_one front in
       let left = option_and_then placed_by (last_on k front) in
       record {
         others = part.others ++ lifetimes_of after;

@@ -12,13 +12,13 @@ use Rattle.lifetime_segments.specs.Lifetimes.{label_end}
 use Rattle.order_labels.specs.ApartLaws.{apart_with, apart_without}
 use Rattle.order_labels.specs.Labels.{AreApart, label_limit}
 use Rattle.retro_dictionary.specs.Changes.{Placed, placed_by}
-use Rattle.retro_dictionary.specs.Edited.{IsBetween, CanPut, CanCut, CanInsert, CanRemove, left_of, next_of, cut_at, joined_at, cut_by, joined_by}
+use Rattle.retro_dictionary.specs.Edited.{IsBetween, CanPut, CanEnd, CanInsert, CanRemove, left_of, next_of, ended_at, joined_at, ended_by, joined_by}
 use Rattle.retro_dictionary.specs.DictionaryLaws.{InsertionsAreKept, RemovalsAreKept}
 use Rattle.retro_dictionary.specs.LabelledRows.{AreLabelled, ordered}
 use Rattle.retro_dictionary.specs.Labelled.{labelled}
 use Rattle.retro_dictionary.specs.Lifetimes.{end_of, put_by, lifetimes_of}
 use Rattle.retro_dictionary.specs.Numbers.{IsOfNumbers}
-use Rattle.retro_dictionary.proofs.KeptLifetimes.{cut-is, joined-is, length-ordered}
+use Rattle.retro_dictionary.proofs.KeptLifetimes.{ended-is, joined-is, length-ordered}
 use Rattle.retro_dictionary.proofs.LabelledRows.{AllAbove, AllBelow, in_two, with-inserted, front-below, back-above, below-last, label_before-below, label-after, beside}
 use Rattle.retro_dictionary.proofs.LabelledRows.{with_row-is, fresh-is, last-is, next-is, at-parts, removed-parts, without-is, last-at, next-at, op-is, length-labelled}
 
@@ -85,23 +85,23 @@ module _ (rows : List Row) (labels : List ℕ) (index : List KeyRow) (lifetimes 
   unfolding back
   following-is = ap (λ i. next_of i label row.op) kept.indexed ∙ next-is labels rows place kept.as_many apart label (key_of row.op) between
 
-  pub can-cut : CanCut (left_of index label row.op) label (next_of index label row.op) lifetimes
+  pub can-end : CanEnd (left_of index label row.op) label (next_of index label row.op) lifetimes
   unfolding front back
-  can-cut = record {
+  can-end = record {
     before = rw left-is (last_below label (key_of row.op) front (front-below label_limit 0 labels rows place label apart between.before));
     after_it = rw following-is (end_above label (key_of row.op) back label_within (back-above label_limit 0 labels rows place label apart between.after_it));
     within = rw following-is (end_within (key_of row.op) back (below_all front back (subst (AllBelow label_end) (in_two labels rows place kept.as_many) all_within)));
     room = omega (arith, ap length kept.held, ap length kept.indexed, length-ordered index, length-labelled labels rows, kept.replayable.few);
   }
 
-  cut-held : cut_by label row.op index lifetimes ≡ ordered (lifetimes_of (with_row label row.op index))
+  ended-held : ended_by label row.op index lifetimes ≡ ordered (lifetimes_of (with_row label row.op index))
   unfolding front back
-  cut-held =
-      ap (λ left. cut_at left label (put_by row.op) (next_of index label row.op) lifetimes) left-is
-      ∙ ap (λ next. cut_at (option_and_then placed_by (last_of (filter (is_on (key_of row.op)) front))) label (put_by row.op) next lifetimes) following-is
-      ∙ ap (cut_at (option_and_then placed_by (last_of (filter (is_on (key_of row.op)) front))) label (put_by row.op) (end_of (key_of row.op) back))
+  ended-held =
+      ap (λ left. ended_at left label (put_by row.op) (next_of index label row.op) lifetimes) left-is
+      ∙ ap (λ next. ended_at (option_and_then placed_by (last_of (filter (is_on (key_of row.op)) front))) label (put_by row.op) next lifetimes) following-is
+      ∙ ap (ended_at (option_and_then placed_by (last_of (filter (is_on (key_of row.op)) front))) label (put_by row.op) (end_of (key_of row.op) back))
       (kept.held ∙ ap (λ i. ordered (lifetimes_of i)) (kept.indexed ∙ in_two labels rows place kept.as_many))
-      ∙ cut-is front (label, row.op) back
+      ∙ ended-is front (label, row.op) back
       ∙ sym (ap (λ i. ordered (lifetimes_of i)) (ap (with_row label row.op) kept.indexed
       ∙ with_row-is labels rows place kept.as_many apart label row (omega (arith, between.before)) between.after_it
       ∙ with-inserted labels rows place label row kept.as_many))
@@ -109,7 +109,7 @@ module _ (rows : List Row) (labels : List ℕ) (index : List KeyRow) (lifetimes 
   pub no_row-at : op_at label index ≡ None
   no_row-at = ap (op_at label) kept.indexed ∙ fresh-is labels rows place kept.as_many apart label between
 
-  pub kept-with : CanInsert rows place row → AreLabelled (insert rows place row) (insert labels place label) (with_row label row.op index) (cut_by label row.op index lifetimes)
+  pub kept-with : CanInsert rows place row → AreLabelled (insert rows place row) (insert labels place label) (with_row label row.op index) (ended_by label row.op index lifetimes)
   kept-with can = record {
     replayable = can.after;
     of_numbers = all_with (λ r. IsOfNumbers r.op) rows place row kept.of_numbers can.of_numbers;
@@ -119,7 +119,7 @@ module _ (rows : List Row) (labels : List ℕ) (index : List KeyRow) (lifetimes 
       rising = apart_with 1 0 label_limit labels place label (omega (arith, within, kept.as_many)) apart (omega (arith, between.before)) (omega (arith, between.after_it));
     };
     indexed = ap (with_row label row.op) kept.indexed ∙ with_row-is labels rows place kept.as_many apart label row (omega (arith, between.before)) between.after_it;
-    held = cut-held;
+    held = ended-held;
   }
 
 -- a row that is taken out
@@ -202,7 +202,7 @@ module _ (rows : List Row) (labels : List ℕ) (index : List KeyRow) (lifetimes 
 pub insertions-kept : InsertionsAreKept
 insertions-kept rows labels index lifetimes place label row kept between can = (
   no_row-at rows labels index lifetimes kept place label row can.within between,
-  can-cut rows labels index lifetimes kept place label row can.within between,
+  can-end rows labels index lifetimes kept place label row can.within between,
   kept-with rows labels index lifetimes kept place label row can.within between can,
 )
 

@@ -9,7 +9,7 @@ use Rattle.lifetime_segments.specs.OrderedLaws.{without-insert_by, length-insert
 use Rattle.std.proofs.lemmas.List.{length-append}
 use Rattle.retro_dictionary.specs.PairSearch.{pair_before}
 use Rattle.retro_dictionary.specs.Changes.{Placed, placed_by, up_to_label}
-use Rattle.retro_dictionary.specs.Edited.{placed_at, all_put, all_taken, cut_at, joined_at}
+use Rattle.retro_dictionary.specs.Edited.{placed_at, all_put, all_taken, ended_at, joined_at}
 use Rattle.retro_dictionary.specs.LabelledRows.{ordered}
 use Rattle.retro_dictionary.specs.Lifetimes.{end_of, put_by, begun, lifetimes_of}
 use Rattle.retro_dictionary.specs.PairSearchLaws.{pair_order}
@@ -54,10 +54,10 @@ module _ (front : List KeyRow) (row : KeyRow) (after : List KeyRow) where
       same-ordered (lifetimes_of (front ++ row ∷ after)) (up_to_label left row.0 ++ (begun row.0 (put_by row.1) after ++ (edited row after front).others)) (edited row after front).with_row
       ∙ ap (λ xs. ordered (up_to_label left row.0 ++ (xs ++ (edited row after front).others))) (begun-is row after (put_by row.1) refl)
 
-  pub cut-is : cut_at left row.0 (put_by row.1) next (ordered (lifetimes_of (front ++ after))) ≡ ordered (lifetimes_of (front ++ row ∷ after))
-  cut-is =
+  pub ended-is : ended_at left row.0 (put_by row.1) next (ordered (lifetimes_of (front ++ after))) ≡ ordered (lifetimes_of (front ++ row ∷ after))
+  ended-is =
       let others = (edited row after front).others in
-      ap (λ xs. cut_at left row.0 (put_by row.1) next xs) without-is
+      ap (λ xs. ended_at left row.0 (put_by row.1) next xs) without-is
       ∙ ap (λ xs. all_taken (up_to_label left next) (all_put (up_to_label left row.0) xs)) (put-ordered (placed_at row.0 (put_by row.1)) next (up_to_label left next ++ others))
       ∙ ap (all_taken (up_to_label left next)) (put-ordered left row.0 (own ++ (up_to_label left next ++ others))
       ∙ same-ordered (up_to_label left row.0 ++ (own ++ (up_to_label left next ++ others)))

@@ -15,7 +15,7 @@ use Rattle.lifetime_segments.specs.Ordered.{in_order}
 use Rattle.order_labels.specs.Labels.{label_before}
 use Rattle.retro_dictionary.specs.Asked.{range_of, answer_from, found_at}
 use Rattle.retro_dictionary.specs.Changes.{placed_by, up_to_label}
-use Rattle.retro_dictionary.specs.Edited.{IsBetween, CanInsert, CanRemove, CanPut, CanCut, left_of, next_of, cut_by, joined_by}
+use Rattle.retro_dictionary.specs.Edited.{IsBetween, CanInsert, CanRemove, CanPut, CanEnd, left_of, next_of, ended_by, joined_by}
 use Rattle.retro_dictionary.specs.LabelledRows.{AreLabelled, ordered}
 use Rattle.retro_dictionary.specs.Lifetimes.{end_of, put_by, begun, lifetimes_of}
 use Rattle.retro_dictionary.specs.PairSearch.{pair_before}
@@ -46,8 +46,8 @@ abbrev pub InsertionsAreKept : Type 0
 InsertionsAreKept =
     (rows : List Row) (labels : List ℕ) (index : List KeyRow) (lifetimes : List (Lifetime (ℤ × ℤ))) (place label : ℕ) (row : Row)
     → AreLabelled rows labels index lifetimes → IsBetween labels place label → CanInsert rows place row
-    → (op_at label index ≡ None) × CanCut (left_of index label row.op) label (next_of index label row.op) lifetimes
-    × AreLabelled (insert rows place row) (insert labels place label) (with_row label row.op index) (cut_by label row.op index lifetimes)
+    → (op_at label index ≡ None) × CanEnd (left_of index label row.op) label (next_of index label row.op) lifetimes
+    × AreLabelled (insert rows place row) (insert labels place label) (with_row label row.op index) (ended_by label row.op index lifetimes)
 
 -- so it is where a row is taken out
 abbrev pub RemovalsAreKept : Type 0

@@ -35,8 +35,8 @@ all_taken [] lifetimes = lifetimes
 all_taken (old ∷ others) lifetimes = without (stands_earlier pair_before) old (all_taken others lifetimes)
 
 -- a row at a label ends the pair that was there up to the next label, and begins its own
-abbrev pub cut_at : Option Placed → ℕ → Option (ℤ × ℤ) → ℕ → List (Lifetime (ℤ × ℤ)) → List (Lifetime (ℤ × ℤ))
-cut_at left label put next lifetimes = all_taken (up_to_label left next) (all_put (up_to_label left label) (all_put (up_to_label (placed_at label put) next) lifetimes))
+abbrev pub ended_at : Option Placed → ℕ → Option (ℤ × ℤ) → ℕ → List (Lifetime (ℤ × ℤ)) → List (Lifetime (ℤ × ℤ))
+ended_at left label put next lifetimes = all_taken (up_to_label left next) (all_put (up_to_label left label) (all_put (up_to_label (placed_at label put) next) lifetimes))
 
 -- and once it is gone the pair is there up to the next label again
 abbrev pub joined_at : Option Placed → ℕ → Option (ℤ × ℤ) → ℕ → List (Lifetime (ℤ × ℤ)) → List (Lifetime (ℤ × ℤ))
@@ -49,7 +49,7 @@ pub record CanPut (placed : Option Placed) (to : ℕ) (lifetimes : List (Lifetim
   pub room : length lifetimes < most_items
 
 -- so have the two that a row makes
-pub record CanCut (left : Option Placed) (label next : ℕ) (lifetimes : List (Lifetime (ℤ × ℤ))) : Type 0 where
+pub record CanEnd (left : Option Placed) (label next : ℕ) (lifetimes : List (Lifetime (ℤ × ℤ))) : Type 0 where
   pub before : IfSome left (λ (pair : Placed). pair.0 < label)
   pub after_it : label < next
   pub within : next ≤ label_end
@@ -63,8 +63,8 @@ abbrev pub next_of : List KeyRow → ℕ → Op → ℕ
 next_of index label op = label_or_end (first_after (key_of op) label index)
 
 -- the lifetimes once a row is put in at a label, and once it is taken out
-abbrev pub cut_by : ℕ → Op → List KeyRow → List (Lifetime (ℤ × ℤ)) → List (Lifetime (ℤ × ℤ))
-cut_by label op index lifetimes = cut_at (left_of index label op) label (put_by op) (next_of index label op) lifetimes
+abbrev pub ended_by : ℕ → Op → List KeyRow → List (Lifetime (ℤ × ℤ)) → List (Lifetime (ℤ × ℤ))
+ended_by label op index lifetimes = ended_at (left_of index label op) label (put_by op) (next_of index label op) lifetimes
 
 abbrev pub joined_by : ℕ → Op → List KeyRow → List (Lifetime (ℤ × ℤ)) → List (Lifetime (ℤ × ℤ))
 joined_by label op index lifetimes = joined_at (left_of index label op) label (put_by op) (next_of index label op) lifetimes

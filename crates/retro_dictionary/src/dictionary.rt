@@ -6,7 +6,7 @@ ghost use Rattle.retro_base.specs.Answers.{answer_of};
 ghost use Rattle.retro_base.specs.Replay.{state_at};
 
 use crate::asked::{answer_from, found_at, number_of, range_of, value_at};
-use crate::edit::{put, take_out};
+use crate::edit::{put, remove_row_at};
 use crate::failing::{place_of_bad, place_of_bad_label};
 use crate::free_label::label_before;
 use crate::labelled_rows::LabelledRows;
@@ -105,7 +105,7 @@ impl Retro for RetroDictionary {
     }
 
     fn remove(&mut self, place: u32) -> Result<(Row, Change), NoMemory> {
-        let row = take_out(&mut self.kept, place)?;
+        let row = remove_row_at(&mut self.kept, place)?;
         Ok((row, Change::Plain))
     }
 

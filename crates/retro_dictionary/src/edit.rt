@@ -7,14 +7,14 @@ ghost use Rattle.order_labels.specs.Labels.{inserted_by};
 ghost use Rattle.retro_base.specs.declared.kind.Kind.TheVariants.{Dict};
 ghost use Rattle.retro_base.specs.Kind.{kind_of};
 ghost use Rattle.retro_base.specs.Limits.{most_rows};
-ghost use Rattle.retro_dictionary.specs.Edited.{CanPut, CanCut, CanRemove, IsBetween, left_of, next_of, cut_by, joined_by};
+ghost use Rattle.retro_dictionary.specs.Edited.{CanPut, CanEnd, CanRemove, IsBetween, left_of, next_of, ended_by, joined_by};
 ghost use Rattle.retro_dictionary.specs.Ready.{IsLabelled, IsReadyFor};
 ghost use Rattle.retro_dictionary.specs.RelabellingLaw.{counted_by, one_more};
 ghost use Rattle.retro_dictionary.specs.RowLabels.{recent_beside, row_rule};
 
 use crate::free_label::{free_label, one_more};
 use crate::labelled_rows::LabelledRows;
-use crate::lifetimes::{cut, join, key_of, label_or_end, placed_by, put_by};
+use crate::lifetimes::{end_at, join, key_of, label_or_end, placed_by, put_by};
 use crate::recent::RecentNeighbour;
 use crate::relabel::put_relabelled;
 use crate::search::PairSearch;
@@ -35,9 +35,9 @@ fn put_labelled(
     requires fresh { op_at label index.old ≡ None }
     requires undone { without label (with_row label op index.old) ≡ index.old }
     requires dict { kind_of op ≡ Dict }
-    requires can { CanCut (left_of index.old label op) label (next_of index.old label op) segments.old }
+    requires can { CanEnd (left_of index.old label op) label (next_of index.old label op) segments.old }
     ensures index_ok { OnOk result (index.new ≡ with_row label op index.old) }
-    ensures segments_ok { OnOk result (segments.new ≡ cut_by label op index.old segments.old) }
+    ensures segments_ok { OnOk result (segments.new ≡ ended_by label op index.old segments.old) }
     ensures index_err { OnErr result (index.new ≡ index.old) }
     ensures segments_err { OnErr result (segments.new ≡ segments.old) }
 {
@@ -45,7 +45,7 @@ fn put_labelled(
     let left = placed_by(beside.before);
     let next = label_or_end(beside.after);
     let put = put_by(op);
-    if cut(segments, &left, label, &put, next).is_err() {
+    if end_at(segments, &left, label, &put, next).is_err() {
         index.remove_row(label, op);
         return Err(NoMemory);
     }
@@ -143,7 +143,7 @@ pub(crate) fn put(
 }
 
 /// Takes the row at a place out. After `NoMemory` all is as before.
-pub(crate) fn take_out(kept: &mut LabelledRows, place: u32) -> Result<Row, NoMemory>
+pub(crate) fn remove_row_at(kept: &mut LabelledRows, place: u32) -> Result<Row, NoMemory>
     requires kept { IsLabelled kept.old }
     requires can { CanRemove kept.old.rows place }
     ensures row { IfOk result (λ row. slice_get kept.old.rows place ≡ Some row) }

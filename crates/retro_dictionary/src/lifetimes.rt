@@ -4,7 +4,7 @@ ghost use Rattle.std.specs.Prelude.{◌≡◌, OnOk, OnErr};
 ghost use Rattle.std.specs.Option.{option_and_then};
 ghost use Rattle.key_index.specs.KeyRows.{key_of};
 ghost use Rattle.retro_dictionary.specs.Changes.{placed_by, up_to_label};
-ghost use Rattle.retro_dictionary.specs.Edited.{CanPut, CanCut, label_or_end, placed_at, all_put, all_taken, cut_at, joined_at};
+ghost use Rattle.retro_dictionary.specs.Edited.{CanPut, CanEnd, label_or_end, placed_at, all_put, all_taken, ended_at, joined_at};
 ghost use Rattle.retro_dictionary.specs.Lifetimes.{put_by};
 
 use crate::pairs::KeyPair;
@@ -109,15 +109,15 @@ fn placed_at(label: u64, put: &Option<KeyPair>) -> Option<(u64, KeyPair)>
 }
 
 /// Ends the pair that was there up to the next label, and begins another one. After `NoMemory` all is as before.
-pub(crate) fn cut(
+pub(crate) fn end_at(
     segments: &mut Segments<PairSearch>,
     left: &Option<(u64, KeyPair)>,
     label: u64,
     put: &Option<KeyPair>,
     next: u64,
 ) -> Result<(), NoMemory>
-    requires can { CanCut left.now label next segments.old }
-    ensures ok { OnOk result (segments.new ≡ cut_at left.now label put.now next segments.old) }
+    requires can { CanEnd left.now label next segments.old }
+    ensures ok { OnOk result (segments.new ≡ ended_at left.now label put.now next segments.old) }
     ensures err { OnErr result (segments.new ≡ segments.old) }
 {
     let own = placed_at(label, put);

@@ -1,7 +1,7 @@
 use Rattle.std.proofs.Common.{◌≡◌, ap, ◌∙◌, rules}
 use Rattle.std.specs.List.{insert, remove}
 use Rattle.retro_dictionary.proofs.EditSteps.{all-same, kept-as, undone, labels-back}
-use Rattle.retro_dictionary.proofs.KeptEdits.{kept-with, can-cut, no_row-at}
+use Rattle.retro_dictionary.proofs.KeptEdits.{kept-with, can-end, no_row-at}
 use Rattle.retro_dictionary.proofs.edit.put_between.Goals as goal
 use Rattle.retro_base.specs.EditedLists.{remove-insert}
 
@@ -15,7 +15,7 @@ put_labelled-requires-clause-undone c =
 
 pub put_labelled-requires-clause-can : goal.put_labelled-requires-clause-can
 put_labelled-requires-clause-can c =
-    can-cut c.args.kept.now.rows c.args.kept.now.labels c.args.kept.now.index c.args.kept.now.segments c.requires.ready.all c.args.place c.args.label c.args.row c.requires.ready.can.within c.requires.between
+    can-end c.args.kept.now.rows c.args.kept.now.labels c.args.kept.now.index c.args.kept.now.segments c.requires.ready.all c.args.place c.args.label c.args.row c.requires.ready.can.within c.requires.between
 
 pub returns-then-is_err-clause-err : goal.returns-then-is_err-clause-err
 returns-then-is_err-clause-err c =

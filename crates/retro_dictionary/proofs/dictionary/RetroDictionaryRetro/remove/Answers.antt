@@ -5,8 +5,8 @@ use Rattle.retro_base.specs.Replay.{IsValid}
 use Rattle.retro_base.specs.ReplayableLaws.{replayable_without}
 use Rattle.retro_dictionary.proofs.dictionary.RetroDictionaryRetro.remove.Goals as goal
 
-pub take_out-requires-clause-can : goal.take_out-requires-clause-can
-take_out-requires-clause-can c =
+pub remove_row_at-requires-clause-can : goal.remove_row_at-requires-clause-can
+remove_row_at-requires-clause-can c =
     let valid : IsValid Dict (remove c.self.inside.kept.rows c.args.place) = subst (λ rows. IsValid Dict (remove rows c.args.place)) (sym c.self.view_is) c.requires.replays in
     record {
       within = search rules;

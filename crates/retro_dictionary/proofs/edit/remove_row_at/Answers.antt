@@ -1,7 +1,7 @@
 use Rattle.std.proofs.Common.{◌≡◌, Some, slice_get, rules}
 use Rattle.retro_dictionary.proofs.EditSteps.{kept-as}
 use Rattle.retro_dictionary.proofs.KeptEdits.{kept-without, op-there, can-join}
-use Rattle.retro_dictionary.proofs.edit.take_out.Goals as goal
+use Rattle.retro_dictionary.proofs.edit.remove_row_at.Goals as goal
 
 pub take_labelled-requires : goal.take_labelled-requires
 take_labelled-requires c =

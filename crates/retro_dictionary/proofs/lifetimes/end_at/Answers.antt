@@ -2,7 +2,7 @@ use Rattle.std.proofs.Common.{◌≡◌, ap, ◌∙◌, arith, rules}
 use Rattle.retro_dictionary.specs.Changes.{up_to_label}
 use Rattle.retro_dictionary.specs.Edited.{placed_at, all_put, all_taken}
 use Rattle.retro_dictionary.proofs.KeptLifetimes.{length-all_put, taken-put}
-use Rattle.retro_dictionary.proofs.lifetimes.cut.Goals as goal
+use Rattle.retro_dictionary.proofs.lifetimes.end_at.Goals as goal
 
 pub move_end-requires : goal.move_end-requires
 move_end-requires c =
