@@ -202,9 +202,9 @@ impl<P: Partial + Drop> Retro for Full<P> {
             place,
         )?;
         let lent = self.checkpoints.as_mut_slice();
-        match insert_everywhere(&mut self.present, lent, place, row) {
+        match insert_everywhere::<P, Brand>(&mut self.present, lent, place, row, Blank::new(1)) {
             Ok(change) => {
-                insert_in_spares(&mut self.spares, place, row);
+                insert_in_spares::<P, Brand>(&mut self.spares, place, row, Blank::new(1));
                 self.width = settle(
                     &self.present,
                     &mut self.checkpoints,
@@ -237,8 +237,8 @@ impl<P: Partial + Drop> Retro for Full<P> {
         ensures err { OnErr result (self.new ≡ self.old) }
     {
         let lent = self.checkpoints.as_mut_slice();
-        let taken = remove_everywhere(&mut self.present, lent, place);
-        remove_in_spares(&mut self.spares, place);
+        let taken = remove_everywhere::<P, Brand>(&mut self.present, lent, place, Blank::new(1));
+        remove_in_spares::<P, Brand>(&mut self.spares, place, Blank::new(1));
         self.width = settle(
             &self.present,
             &mut self.checkpoints,

@@ -99,32 +99,7 @@ impl<P: Partial + Drop> Snapshot<P> {
     }
 
     /// Puts a row in at a place, and answers the change of its present. After `NoMemory` all is as before.
-    pub(crate) fn put_in(&mut self, place: u32, row: Row) -> Result<Change, NoMemory>
-        requires within { place ≤ place_of self.old }
-        requires can { CanTake self.old place row }
-        ensures ok { OnOk result (self.new ≡ after self.old (add place row)) }
-        ensures before { IsReplayable self.old.kind self.old.rows }
-        ensures replayable { IsReplayable self.new.kind self.new.rows }
-        ensures change { IfOk result (IsChange self.old.kind self.old.rows (add place row)) }
-        ensures err { OnErr result (self.new ≡ self.old) }
-    {
-        uncounted::insert(&mut self.structure, place, row)
-    }
-
-    /// Takes the row at a place out, gives it back, and answers the change of its present. It takes no memory.
-    pub(crate) fn take_out(&mut self, place: u32) -> (Row, Change)
-        requires within { place < place_of self.old }
-        requires replays { IsValid self.old.kind (remove self.old.rows place) }
-        ensures row { slice_get self.old.rows place ≡ Some result.0 }
-        ensures rows { self.new ≡ after self.old (cut place result.0) }
-        ensures replayable { IsReplayable self.new.kind self.new.rows }
-        ensures change { IsChange self.old.kind self.old.rows (cut place result.0) result.1 }
-    {
-        uncounted::remove(&mut self.structure, place)
-    }
-
-    /// `put_in`, which counts what it visits.
-    fn insert<L: Ledger>(
+    pub(crate) fn insert<L: Ledger>(
         &mut self,
         place: u32,
         row: Row,
@@ -133,17 +108,23 @@ impl<P: Partial + Drop> Snapshot<P> {
         requires within { place ≤ place_of self.old }
         requires can { CanTake self.old place row }
         ensures ok { OnOk result (self.new ≡ after self.old (add place row)) }
+        ensures before { IsReplayable self.old.kind self.old.rows }
+        ensures replayable { IsReplayable self.new.kind self.new.rows }
+        ensures change { IfOk result (IsChange self.old.kind self.old.rows (add place row)) }
         ensures err { OnErr result (self.new ≡ self.old) }
         ensures visits { VisitsWithin 144 (place_of self.old + 1) steps.old steps.new }
     {
         self.structure.insert(place, row, steps)
     }
 
-    /// `take_out`, which counts what it visits.
-    fn remove<L: Ledger>(&mut self, place: u32, steps: &mut Steps<L>) -> (Row, Change)
+    /// Takes the row at a place out, gives it back, and answers the change of its present. It takes no memory.
+    pub(crate) fn remove<L: Ledger>(&mut self, place: u32, steps: &mut Steps<L>) -> (Row, Change)
         requires within { place < place_of self.old }
         requires replays { IsValid self.old.kind (remove self.old.rows place) }
+        ensures row { slice_get self.old.rows place ≡ Some result.0 }
         ensures rows { self.new ≡ after self.old (cut place result.0) }
+        ensures replayable { IsReplayable self.new.kind self.new.rows }
+        ensures change { IsChange self.old.kind self.old.rows (cut place result.0) result.1 }
         ensures visits { VisitsWithin 144 (place_of self.old) steps.old steps.new }
     {
         self.structure.remove(place, steps)

@@ -3,13 +3,15 @@
 //! between them and dropped again by turns.
 ghost use Rattle.std.specs.Prelude.{◌≡◌, ◌+◌, ◌-◌, ◌≤◌, ◌⊎◌, [], length, map, position, IfSome, IfOk};
 ghost use Rattle.std.specs.List.{AllByRecursion};
+ghost use Rattle.retro_base.specs.Visits.{OpensCounter};
 ghost use Rattle.checkpoint_full.specs.Checkpoints.{first_of, place_of, stands_within, with_row, without_row, CanFollow, CanLose, HoldsFirstRows};
 ghost use Rattle.checkpoint_full.specs.Widths.{most_checkpoints};
 
 use crate::follow::{insert_in_each, remove_in_each};
 use crate::snapshot::Snapshot;
 use crate::width::MOST_CHECKPOINTS;
-use retro_base::{NoMemory, Partial, Row};
+use retro_base::{NoMemory, Partial, Row, Steps};
+use std::sync::ledger::{Blank, Ledger};
 
 /// Lays a structure aside, before the others, where there is memory for that.
 pub(crate) fn lay_aside<P: Partial + Drop>(
@@ -91,26 +93,36 @@ pub(crate) fn stand_between<P: Partial + Drop>(
     }
 }
 
-/// Puts the row into each that stands after the place. Where there is no memory for that, none is kept.
-pub(crate) fn insert_in_spares<P: Partial + Drop>(
+/// Puts the row into each that stands after the place. Where there is no memory for that, none is kept. It opens
+/// a counter of its own.
+pub(crate) fn insert_in_spares<P: Partial + Drop, L: Ledger>(
     spares: &mut Vec<Snapshot<P>>,
     place: u32,
     row: Row,
+    blank: Blank,
 )
-    requires { AllByRecursion (CanFollow place row) spares.old.items }
+    requires follow { AllByRecursion (CanFollow place row) spares.old.items }
+    requires counter { OpensCounter blank.name L.name blank.parts L.parts }
     ensures { (spares.new.items ≡ map (with_row place row) spares.old.items) ⊎ (spares.new.items ≡ []) }
 {
-    if let Err(_error) = insert_in_each(spares.as_mut_slice(), place, row) {
+    let mut steps = Steps::<L>::new(blank);
+    if let Err(_error) = insert_in_each(spares.as_mut_slice(), place, row, &mut steps) {
         spares.truncate(0);
     }
 }
 
-/// Takes the row at the place out of each that stands after it.
-pub(crate) fn remove_in_spares<P: Partial + Drop>(spares: &mut Vec<Snapshot<P>>, place: u32)
-    requires { AllByRecursion (CanLose place) spares.old.items }
+/// Takes the row at the place out of each that stands after it. It opens a counter of its own.
+pub(crate) fn remove_in_spares<P: Partial + Drop, L: Ledger>(
+    spares: &mut Vec<Snapshot<P>>,
+    place: u32,
+    blank: Blank,
+)
+    requires lose { AllByRecursion (CanLose place) spares.old.items }
+    requires counter { OpensCounter blank.name L.name blank.parts L.parts }
     ensures { spares.new.items ≡ map (without_row place) spares.old.items }
 {
-    remove_in_each(spares.as_mut_slice(), place);
+    let mut steps = Steps::<L>::new(blank);
+    remove_in_each(spares.as_mut_slice(), place, &mut steps);
 }
 
 /// Lets those go that were laid aside first, where there are more structures than there may be checkpoints.

@@ -13,13 +13,13 @@
 //! - Questions: `Question`, `Answer`, `Item`, `Listing`.
 //! - Structures: `Retro`; `Partial`, which answers of the present alone, and of that of a later structure whose first
 //!   rows it has, and takes no memory to remove; `PlainList`, `PerformedRows`.
-//! - The calls of `Partial` with a counter of their own: `uncounted`.
+//! - The questions of `Partial` with a counter of their own: `uncounted`.
 //! - Texts: `Name`, `Text`, `print_op`. Costs: `Steps`. Memory: `NoMemory`.
 //! - Laws on the bridges of a priority queue, and on edits that give: the functions of the module `laws`, which have no body.
 //! - Limits: `MAX_ROWS`, `MAX_NEXT`, which are those of `specs/Limits.antt`.
 //! - `kind`, `op`, `op_text`, `row`, `packed_row`, `rows`, `name`, `limits`: what a history is told in.
 //! - `question`, `listing`: what is asked, and answered.
-//! - `retro`, `partial`, `uncounted`: the two traits of structures, and the calls of the second with a counter of their own.
+//! - `retro`, `partial`, `uncounted`: the two traits of structures, and the questions of the second with a counter of their own.
 //! - `plain_list`, `performed_rows`: the plain structure and performed rows, over `content` with its `line`, `pairs` and
 //!   `entries`; `counting`, `bridge_search`: the row that fails first, and what an edit of a priority queue changes.
 //! - `text`, `steps`, `memory`: what is written, what is counted, and the error of no memory. `laws`.

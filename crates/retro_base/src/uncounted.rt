@@ -1,18 +1,15 @@
-//! The calls of a structure that answers of the present alone, each with a counter of its own: for a caller
+//! The questions to a structure that answers of the present alone, each with a counter of its own: for a caller
 //! that counts nothing. Costs, conditions and answers are those of `Partial`.
-ghost use Rattle.std.specs.Prelude.{◌≡◌, ◌+◌, ◌<◌, ◌≤◌, length, take, slice_get, true, Some, IfSome, IfOk, OnOk, OnErr};
+ghost use Rattle.std.specs.Prelude.{◌≡◌, ◌+◌, ◌<◌, ◌≤◌, length, take, true, IfSome, IfOk};
 ghost use Rattle.std.specs.List.{insert, remove};
 ghost use Rattle.retro_base.specs.declared.row.Row.{Row};
 ghost use Rattle.retro_base.specs.Kind.{kind_of};
-ghost use Rattle.retro_base.specs.Replay.{failure, IsValid, present, state_at};
+ghost use Rattle.retro_base.specs.Replay.{failure, present, state_at};
 ghost use Rattle.retro_base.specs.Answers.{answer_of, content};
 ghost use Rattle.retro_base.specs.Questions.{suits};
-ghost use Rattle.retro_base.specs.Edits.{add, cut};
-ghost use Rattle.retro_base.specs.Changes.{IsChange};
-ghost use Rattle.retro_base.specs.Timeline.{IsReplayable};
 ghost use Rattle.retro_base.specs.Visits.{OpensCounter};
 
-use crate::{Answer, Change, Listing, NoMemory, Op, Partial, Question, Row, Steps};
+use crate::{Answer, Listing, NoMemory, Op, Partial, Question, Steps};
 use std::marker::Brand;
 use std::sync::ledger::{Blank, Ledger};
 
@@ -65,65 +62,6 @@ fn find_failure_without<P: Partial, L: Ledger>(
 {
     let mut steps = Steps::<L>::new(blank);
     structure.failure_after_remove(place, &mut steps)
-}
-
-/// `insert` of the structure.
-pub fn insert<P: Partial>(structure: &mut P, place: u32, row: Row) -> Result<Change, NoMemory>
-    requires within { place ≤ length (P.rows structure.old) }
-    requires replayable { IsReplayable (P.kind structure.old) (insert (P.rows structure.old) place row) }
-    ensures kind { P.kind structure.new ≡ P.kind structure.old }
-    ensures rows { OnOk result (P.rows structure.new ≡ insert (P.rows structure.old) place row) }
-    ensures replayable { OnOk result (IsReplayable (P.kind structure.new) (P.rows structure.new)) }
-    ensures change { IfOk result (IsChange (P.kind structure.old) (P.rows structure.old) (add place row)) }
-    ensures err { OnErr result (P.rows structure.new ≡ P.rows structure.old) }
-{
-    put_in::<P, Brand>(structure, place, row, Blank::new(1))
-}
-
-fn put_in<P: Partial, L: Ledger>(
-    structure: &mut P,
-    place: u32,
-    row: Row,
-    blank: Blank,
-) -> Result<Change, NoMemory>
-    requires within { place ≤ length (P.rows structure.old) }
-    requires replayable { IsReplayable (P.kind structure.old) (insert (P.rows structure.old) place row) }
-    requires counter { OpensCounter blank.name L.name blank.parts L.parts }
-    ensures kind { P.kind structure.new ≡ P.kind structure.old }
-    ensures rows { OnOk result (P.rows structure.new ≡ insert (P.rows structure.old) place row) }
-    ensures replayable { OnOk result (IsReplayable (P.kind structure.new) (P.rows structure.new)) }
-    ensures change { IfOk result (IsChange (P.kind structure.old) (P.rows structure.old) (add place row)) }
-    ensures err { OnErr result (P.rows structure.new ≡ P.rows structure.old) }
-{
-    let mut steps = Steps::<L>::new(blank);
-    structure.insert(place, row, &mut steps)
-}
-
-/// `remove` of the structure.
-pub fn remove<P: Partial>(structure: &mut P, place: u32) -> (Row, Change)
-    requires within { place < length (P.rows structure.old) }
-    requires replays { IsValid (P.kind structure.old) (remove (P.rows structure.old) place) }
-    ensures kind { P.kind structure.new ≡ P.kind structure.old }
-    ensures row { slice_get (P.rows structure.old) place ≡ Some result.0 }
-    ensures rows { P.rows structure.new ≡ remove (P.rows structure.old) place }
-    ensures replayable { IsReplayable (P.kind structure.new) (P.rows structure.new) }
-    ensures change { IsChange (P.kind structure.old) (P.rows structure.old) (cut place result.0) result.1 }
-{
-    take_out::<P, Brand>(structure, place, Blank::new(1))
-}
-
-fn take_out<P: Partial, L: Ledger>(structure: &mut P, place: u32, blank: Blank) -> (Row, Change)
-    requires within { place < length (P.rows structure.old) }
-    requires replays { IsValid (P.kind structure.old) (remove (P.rows structure.old) place) }
-    requires counter { OpensCounter blank.name L.name blank.parts L.parts }
-    ensures kind { P.kind structure.new ≡ P.kind structure.old }
-    ensures row { slice_get (P.rows structure.old) place ≡ Some result.0 }
-    ensures rows { P.rows structure.new ≡ remove (P.rows structure.old) place }
-    ensures replayable { IsReplayable (P.kind structure.new) (P.rows structure.new) }
-    ensures change { IsChange (P.kind structure.old) (P.rows structure.old) (cut place result.0) result.1 }
-{
-    let mut steps = Steps::<L>::new(blank);
-    structure.remove(place, &mut steps)
 }
 
 /// `ask_now` of the structure.

@@ -16,8 +16,8 @@ settle-self-inside-requires-clause-kept g c =
     (omega (arith, c.as_mut_slice-lent.ensures.len, c.insert_everywhere.auto.checkpoints))
     ∙ c.in-Ok.ensures.checkpoints ∙ ap (λ cs. map (with_row c.args.place c.args.row) cs) c.as_mut_slice-lent.ensures.value)
 
-pub insert_in_spares-requires : goal.insert_in_spares-requires
-insert_in_spares-requires g c =
+pub insert_in_spares-requires-clause-follow : goal.insert_in_spares-requires-clause-follow
+insert_in_spares-requires-clause-follow g c =
     each_can_follow c.self.inside.present c.args.place c.args.row c.make_room.new.spares.items
     (subst (λ s. IsReplayable s.kind (insert s.rows c.args.place c.args.row)) (sym c.self.view_is) c.requires.replayable)
     c.in-Ok.ensures.before.valid c.in_ok-split.ensures.spares

@@ -16,8 +16,8 @@ settle-self-inside-requires-clause-kept g c =
     (omega (arith, c.as_mut_slice-lent.ensures.len, c.remove_everywhere-taken.auto.checkpoints))
     ∙ c.remove_everywhere-taken.ensures.checkpoints ∙ ap (λ cs. map (without_row c.args.place) cs) c.as_mut_slice-lent.ensures.value)
 
-pub remove_in_spares-requires : goal.remove_in_spares-requires
-remove_in_spares-requires g c =
+pub remove_in_spares-requires-clause-lose : goal.remove_in_spares-requires-clause-lose
+remove_in_spares-requires-clause-lose g c =
     each_can_lose c.self.inside.present c.args.place c.self.inside.spares.items
     (subst (λ s. IsValid s.kind (remove s.rows c.args.place)) (sym c.self.view_is) c.requires.replays) c.self.invariant.2
 
