@@ -12,7 +12,7 @@ use Rattle.workbench.specs.Bench.{NamedTimeline}
 use Rattle.workbench.specs.Outcome.{is_refusal, reply_text}
 use Rattle.workbench.specs.Reaction.{Effect}
 use Rattle.workbench.specs.TimelineEffects.{TimelineEffect, unchanged}
-use Rattle.workbench.specs.AnsweredLine.{AnsweredLine, IsTold, performs, performs_other, told}
+use Rattle.workbench.specs.AnsweredLine.{IsTold, performs, performs_other, told}
 
 -- the outcome of the effect was told
 pub told_by : {E : Type 0} (result : Result Bool E) (effect : Effect) (timelines : List NamedTimeline) (outcome : Outcome) (text : List ℕ)

@@ -4,7 +4,7 @@ use Rattle.std.specs.Prelude.{option_map, IfSome}
 use Rattle.std.proofs.lemmas.Bool.{lt-leb}
 use Rattle.retro_base.specs.declared.memory.NoMemory.{NoMemory}
 use Rattle.retro_base.specs.declared.row.Row.{Row}
-use Rattle.retro_base.specs.Edits.{Step, cut, edited_by, inverse_step}
+use Rattle.retro_base.specs.Edits.{Edit, Step, cut, edited_by, inverse_step}
 use Rattle.retro_base.specs.Limits.{most_rows, next_limit}
 use Rattle.retro_base.specs.Places.{place_of_row}
 use Rattle.retro_base.specs.Replay.{failure}
@@ -21,7 +21,7 @@ use Rattle.workbench.specs.declared.outcome.Outcome.TheVariants.{Accepted, Inser
 use Rattle.workbench.specs.Bench.{NamedTimeline, named}
 use Rattle.workbench.specs.EditErrors.{IsRefusedBy}
 use Rattle.workbench.specs.Outcome.{is_refusal}
-use Rattle.workbench.specs.TimelineEffects.{TimelineEffect, deletes, makes, redoes, shifts, shifts_there, undoes}
+use Rattle.workbench.specs.TimelineEffects.{TimelineEffect, deletes, edits, makes, redoes, shifts, shifts_there, undoes}
 use Rattle.workbench.proofs.Refusals.{reported_is_no_refusal}
 use Rattle.workbench.proofs.TimelineEffects.{at_step, deletes_there, makes_accepted, redoes_newest, shifts_makes, shifts_step, slice_get_none, step_there, undoes_newest}
 use Rattle.retro_base.specs.Facts.{one_value}
@@ -34,15 +34,21 @@ makes_is_not_refused : (t : NamedTimeline) (step : Step) (next : ℕ) (outcome :
 makes_is_not_refused t step next outcome plain valid =
     subst IsNotRefused (sym (makes_accepted t step next outcome valid)) (reported_is_no_refusal t.name t.kind t.rows step outcome plain)
 
+-- an edit alone, which replays
+pub edit_memory : (t : NamedTimeline) (effect : TimelineEffect) (edit : Edit) (next : ℕ) (plain : Outcome) (error : EditError) (result : Result Outcome NoMemory)
+    → effect ≡ edits t edit next plain → is_refusal plain ≡ false → IsCause t.kind t.rows edit error → IsRefusedBy error result → OnErr result (IsNotRefused effect)
+edit_memory t effect edit next plain (errors.Fails failing time) result is accepted cause refused = rw refused tt
+edit_memory t effect edit next plain errors.NoMemory (Ok outcome) is accepted cause refused = tt
+edit_memory t effect edit next plain errors.NoMemory (Err error) is accepted cause refused =
+    subst IsNotRefused (sym is) (makes_is_not_refused t (edit ∷ []) next plain accepted cause)
+
 -- a row that is taken out
 delete_found : (t : NamedTimeline) (number place : ℕ) (found : Option Row) (error : EditError) (result : Result Outcome NoMemory) → place_of_row number t.rows ≡ Some place
     → place < length t.rows → slice_get t.rows place ≡ found → IfSome found (λ row. IsCause t.kind t.rows (cut place row) error) → IsRefusedBy error result
     → OnErr result (IsNotRefused (deletes t number))
-delete_found t number place found (errors.Fails failing time) result there within at cause refused = rw refused tt
-delete_found t number place found errors.NoMemory (Ok outcome) there within at cause refused = tt
-delete_found t number place None errors.NoMemory (Err error) there within at cause refused = absurd (omega (arith, slice_get_none t.rows place at, within))
-delete_found t number place (Some row) errors.NoMemory (Err error) there within at cause refused =
-    subst IsNotRefused (sym (deletes_there t number place row there at)) (makes_is_not_refused t (cut place row ∷ []) t.next Accepted refl cause)
+delete_found t number place None error result there within at cause refused = absurd (omega (arith, slice_get_none t.rows place at, within))
+delete_found t number place (Some row) error result there within at cause refused =
+    edit_memory t (deletes t number) (cut place row) t.next Accepted error result (deletes_there t number place row there at) refl cause refused
 
 pub delete_memory : (t : NamedTimeline) (number place : ℕ) (error : EditError) (result : Result Outcome NoMemory) → place_of_row number t.rows ≡ Some place
     → place < length t.rows → IfSome (slice_get t.rows place) (λ row. IsCause t.kind t.rows (cut place row) error) → IsRefusedBy error result

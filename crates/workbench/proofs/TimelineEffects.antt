@@ -35,7 +35,7 @@ use Rattle.workbench.specs.declared.position.Position.{Position}
 use Rattle.workbench.specs.Bench.{NamedTimeline, named}
 use Rattle.std.proofs.lemmas.Bool.{lt-leb}
 use Rattle.retro_base.specs.Order.{Fits}
-use Rattle.workbench.specs.TimelineEffects.{TimelineEffect, refuses, row_named, position_before, next_position, position_of, inserts_there, new_row, after_step, makes, edits}
+use Rattle.workbench.specs.TimelineEffects.{TimelineEffect, refuses, row_named, position_before, next_position, position_of, inserts_there, new_row, after_step, makes, edits, where_one_fits}
 use Rattle.workbench.specs.TimelineEffects.{tells, inserts, deletes, shifts_there, shifts_by, shifts, changes, answers, undoes_step, undoes, redoes_step, redoes}
 use Rattle.retro_base.specs.OrderLaws.{time_fits, fits_before, fits_after}
 use Rattle.retro_base.specs.Facts.{one_value}
@@ -87,13 +87,6 @@ pub shifts_step : (t : NamedTimeline) (number place : ℕ) (target : Target) (st
     → shift_at t.rows target t.next place ≡ Some step → shifts t number target ≡ shifts_there t step
 unfolding shifts
 shifts_step t number place target step there at = ap (λ p. shifts_by t number (option_and_then (shift_at t.rows target t.next) p)) there ∙ ap (shifts_by t number) at
-
-pub shifts_full : (t : NamedTimeline) (step : Step) → nat_le most_rows (length t.rows) ≡ true → shifts_there t step ≡ refuses t refusals.Full
-shifts_full t step full = rw full refl
-
-pub shifts_numbers : (t : NamedTimeline) (step : Step) → nat_le most_rows (length t.rows) ≡ false → nat_le next_limit t.next ≡ true
-    → shifts_there t step ≡ refuses t refusals.Numbers
-shifts_numbers t step room none = rw (room, none) refl
 
 pub shifts_makes : (t : NamedTimeline) (step : Step) → nat_le most_rows (length t.rows) ≡ false → nat_le next_limit t.next ≡ false
     → shifts_there t step ≡ makes t step (t.next + 1) (Inserted t.next)
@@ -177,20 +170,20 @@ pub deletes_there : (t : NamedTimeline) (number place : ℕ) (row : Row) → pla
 unfolding deletes
 deletes_there t number place row there at = rw (there, at) refl
 
--- the delete of a row is refused by the cause that the edit has
-refused_there : (t : NamedTimeline) (number place : ℕ) (row : Row) (error : EditError) (result : Result Outcome NoMemory) → place_of_row number t.rows ≡ Some place
-    → slice_get t.rows place ≡ Some row → IsCause t.kind t.rows (cut place row) error → IsRefusedBy error result
-    → IfOk result (λ outcome. deletes t number ≡ record { timeline = t; outcome = outcome })
-refused_there t number place row (errors.Fails failing time) result there at cause refused =
-    rw refused (deletes_there t number place row there at ∙ edits_fails t (cut place row) t.next Accepted failing time cause)
-refused_there t number place row errors.NoMemory (Ok outcome) there at cause refused = absurd (refused outcome refl)
-refused_there t number place row errors.NoMemory (Err error) there at cause refused = tt
+-- what an edit alone makes is refused by the cause that the edit has
+pub edit_refused : (t : NamedTimeline) (effect : TimelineEffect) (edit : Edit) (next : ℕ) (plain : Outcome) (error : EditError) (result : Result Outcome NoMemory)
+    → effect ≡ edits t edit next plain → IsCause t.kind t.rows edit error → IsRefusedBy error result
+    → IfOk result (λ outcome. effect ≡ record { timeline = t; outcome = outcome })
+edit_refused t effect edit next plain (errors.Fails failing time) result is cause refused = rw refused (is ∙ edits_fails t edit next plain failing time cause)
+edit_refused t effect edit next plain errors.NoMemory (Ok outcome) is cause refused = absurd (refused outcome refl)
+edit_refused t effect edit next plain errors.NoMemory (Err error) is cause refused = tt
 
 refused_found : (t : NamedTimeline) (number place : ℕ) (found : Option Row) (error : EditError) (result : Result Outcome NoMemory) → place_of_row number t.rows ≡ Some place
     → place < length t.rows → slice_get t.rows place ≡ found → IfSome found (λ row. IsCause t.kind t.rows (cut place row) error) → IsRefusedBy error result
     → IfOk result (λ outcome. deletes t number ≡ record { timeline = t; outcome = outcome })
 refused_found t number place None error result there within at cause refused = absurd (omega (arith, slice_get_none t.rows place at))
-refused_found t number place (Some row) error result there within at cause refused = refused_there t number place row error result there at cause refused
+refused_found t number place (Some row) error result there within at cause refused =
+    edit_refused t (deletes t number) (cut place row) t.next Accepted error result (deletes_there t number place row there at) cause refused
 
 pub deletes_refused : (t : NamedTimeline) (number place : ℕ) (error : EditError) (result : Result Outcome NoMemory) → place_of_row number t.rows ≡ Some place
     → place < length t.rows → IfSome (slice_get t.rows place) (λ row. IsCause t.kind t.rows (cut place row) error) → IsRefusedBy error result
@@ -198,17 +191,12 @@ pub deletes_refused : (t : NamedTimeline) (number place : ℕ) (error : EditErro
 deletes_refused t number place error result there within cause refused =
     refused_found t number place (slice_get t.rows place) error result there within refl cause refused
 
--- a row is inserted where there is room and a number
-pub inserts_full : (t : NamedTimeline) (op : Op) (position : Position) → nat_le most_rows (length t.rows) ≡ true → inserts_there t op position ≡ refuses t refusals.Full
-inserts_full t op position full = rw full refl
-
-pub inserts_numbers : (t : NamedTimeline) (op : Op) (position : Position) → nat_le most_rows (length t.rows) ≡ false → nat_le next_limit t.next ≡ true
-    → inserts_there t op position ≡ refuses t refusals.Numbers
-inserts_numbers t op position room none = rw (room, none) refl
-
-pub inserts_edits : (t : NamedTimeline) (op : Op) (position : Position) → nat_le most_rows (length t.rows) ≡ false → nat_le next_limit t.next ≡ false
-    → inserts_there t op position ≡ edits t (add position.place (new_row t position op)) (t.next + 1) (Inserted t.next)
-inserts_edits t op position room number = rw (room, number) refl
+-- a row is inserted at the position of its spot, where one more fits
+pub inserts_fitting : (t : NamedTimeline) (spot : Spot) (op : Op) (position : Position) → same_kind (kind_of op) t.kind ≡ true → position_of spot t.rows ≡ Some position
+    → ((made : TimelineEffect) → where_one_fits t made ≡ made)
+    → inserts t spot op ≡ edits t (add position.place (new_row t position op)) (t.next + 1) (Inserted t.next)
+inserts_fitting t spot op position same there fits =
+    inserts_at_position t spot op position same there ∙ fits (edits t (add position.place (new_row t position op)) (t.next + 1) (Inserted t.next))
 
 -- steps that are undone and redone, where there are some
 pub undoes_nothing : (t : NamedTimeline) → t.history.undo ≡ [] → undoes t ≡ refuses t refusals.NothingToUndo

@@ -5,7 +5,7 @@ ghost use Rattle.retro_base.specs.Limits.{longest_line};
 ghost use Rattle.script_grammar.specs.Command.{IsProper};
 ghost use Rattle.retro_base.specs.Replay.{present};
 ghost use Rattle.workbench.specs.Bench.{NamedTimeline, empty_bench, named, present_size, size_of, timeline_of};
-ghost use Rattle.workbench.specs.Reaction.{closing, ends, happens, opened, reaction_of, reacts_to, with_line, without_block};
+ghost use Rattle.workbench.specs.Reaction.{closing, ends, opened, reaction_of, reacts_to, with_line, without_block};
 
 use crate::open_block::OpenBlock;
 use crate::timelines::Timelines;
@@ -97,7 +97,15 @@ impl Bench {
         ensures spent { self.new.spent ≡ is_err result }
     {
         answer.clear();
-        let refused = self.obey(line, long, answer);
+        let refused = if self.block.is_none() {
+            let command = read_line(line, long);
+            self.begin_block(&command);
+            self.timelines.obey(&command, answer)
+        } else if !long && is_end(line) {
+            self.close(true, answer)
+        } else {
+            self.take(line, long)
+        };
         self.spent = refused.is_err();
         refused
     }
@@ -173,26 +181,6 @@ impl Bench {
         }
     }
 
-    /// Does what a line asks for, and writes the answer.
-    fn obey(&mut self, line: &[u8], long: bool, answer: &mut Text) -> Result<bool, NoMemory>
-        requires within { length line.now ≤ longest_line }
-        requires full { IsTrue long → length line.now ≡ longest_line }
-        requires empty { answer.old ≡ [] }
-        ensures { IfOk result (λ refused. reaction_of (happens self.old.bench.timelines self.old.bench.block line.now long)
-            ≡ record { bench = self.new.bench; answer = answer.new; refused = refused }) }
-    {
-        if self.block.is_none() {
-            let command = read_line(line, long);
-            self.begin_block(&command);
-            return self.timelines.obey(&command, answer);
-        }
-        if !long && is_end(line) {
-            return self.close(true, answer);
-        }
-        self.take(line, long)?;
-        Ok(false)
-    }
-
     /// Begins the block that a line opens, if it is a header.
     fn begin_block(&mut self, line: &Result<Command, LineError>)
         requires proper { IfOk line.now IsProper }
@@ -229,18 +217,20 @@ impl Bench {
         }
     }
 
-    /// Gives a line to the block that is being read. After `NoMemory` all is as before.
+    /// Gives a line to the block that is being read. It is not refused and not answered: what is wrong with it is told at the
+    /// close. After `NoMemory` all is as before.
     #[inline(never)]
-    fn take(&mut self, line: &[u8], long: bool) -> Result<(), NoMemory>
+    fn take(&mut self, line: &[u8], long: bool) -> Result<bool, NoMemory>
         requires within { length line.now ≤ longest_line }
         requires full { IsTrue long → length line.now ≡ longest_line }
         ensures timelines { self.new.bench.timelines ≡ self.old.bench.timelines }
         ensures ok { OnOk result (self.new.bench.block ≡ option_map (λ unclosed. with_line unclosed line.now long) self.old.bench.block) }
+        ensures refused { IfOk result (λ refused. refused ≡ false) }
     {
-        match &mut self.block {
-            Some(unclosed) => unclosed.take(line, long),
-            None => Ok(()),
+        if let Some(unclosed) = &mut self.block {
+            unclosed.take(line, long)?;
         }
+        Ok(false)
     }
 }
 

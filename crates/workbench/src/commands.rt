@@ -3,14 +3,13 @@
 ghost use Rattle.std.specs.Prelude.{IfOk, OnOk};
 
 use crate::named_timeline::NamedTimeline;
-use retro_base::{NoMemory, Op, Text};
-use script_grammar::{Command, Spot};
+use retro_base::{NoMemory, Text};
+use script_grammar::Command;
 use timeline_undo::Target;
 
 impl NamedTimeline {
     ghost use Rattle.workbench.specs.AnsweredLine.{IsTold, performs, performs_other};
     ghost use Rattle.workbench.specs.Bench.{IsUnspent};
-    ghost use Rattle.workbench.specs.TimelineEffects.{deletes, inserts};
 
     /// Does what a command asks of the timeline; one that is about none leaves it as it is. Appends the answer, and gives whether it is
     /// a refusal. Questions and the edits of one row are most lines, so they come first, and each stands in a function that is not inlined:
@@ -22,30 +21,10 @@ impl NamedTimeline {
     {
         match command {
             Command::Ask { moment, query, .. } => self.ask(*moment, *query, answer),
-            Command::Insert { spot, op, .. } => self.put_row(*spot, *op, answer),
-            Command::Delete { number, .. } => self.take_row(*number, answer),
+            Command::Insert { spot, op, .. } => self.insert(*spot, *op)?.tell(answer),
+            Command::Delete { number, .. } => self.delete(*number)?.tell(answer),
             _ => self.perform_other(command, answer),
         }
-    }
-
-    /// Puts a row in, and appends the answer.
-    #[inline(never)]
-    fn put_row(&mut self, spot: Spot, op: Op, answer: &mut Text) -> Result<bool, NoMemory>
-        requires unspent { IsUnspent self.old }
-        ensures told { IfOk result (IsTold (inserts self.old.timeline spot op) self.new.timeline answer.old answer.new) }
-        ensures unspent { OnOk result (IsUnspent self.new) }
-    {
-        self.insert(spot, op)?.tell(answer)
-    }
-
-    /// Takes a row out, and appends the answer.
-    #[inline(never)]
-    fn take_row(&mut self, number: u32, answer: &mut Text) -> Result<bool, NoMemory>
-        requires unspent { IsUnspent self.old }
-        ensures told { IfOk result (IsTold (deletes self.old.timeline number) self.new.timeline answer.old answer.new) }
-        ensures unspent { OnOk result (IsUnspent self.new) }
-    {
-        self.delete(number)?.tell(answer)
     }
 
     /// Does what a command asks that is neither a question nor the edit of one row, and appends the answer.

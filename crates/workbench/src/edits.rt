@@ -1,11 +1,10 @@
 //! Edits of a timeline: a row put in, taken out or replaced, and steps undone and redone.
 
-ghost use Rattle.std.specs.Prelude.{◌≡◌, ◌≤◌, ◌<◌, false, length, List, Some, [], ◌∷◌, IfOk, OnErr, OnOk, MatchOption};
+ghost use Rattle.std.specs.Prelude.{◌≡◌, ◌<◌, false, length, List, Some, [], ◌∷◌, IfOk, OnErr, OnOk, MatchOption};
 ghost use Rattle.retro_base.specs.Kind.{kind_of, same_kind};
 ghost use Rattle.retro_base.specs.declared.row.Row.{Row};
 ghost use Rattle.retro_base.specs.Edits.{Step};
 ghost use Rattle.retro_base.specs.MadeEdits.{IsMade};
-ghost use Rattle.retro_base.specs.Order.{Fits};
 ghost use Rattle.timeline_undo.specs.Session.{AreMade, HasRoom, edit_reported, step_reported};
 ghost use Rattle.timeline_undo.specs.Shift.{IsTargetOf, shift_at};
 ghost use Rattle.timeline_undo.specs.declared.turn.Turns.TheVariants.{Double};
@@ -15,7 +14,7 @@ ghost use Rattle.workbench.specs.EditErrors.{IsRefusedBy};
 
 use crate::named_timeline::{NamedTimeline, no_row};
 use crate::outcome::{Outcome, Refusal};
-use crate::position::{Position, position_of, row_named};
+use crate::position::{position_of, row_named};
 use crate::reported::{reported, reported_both};
 use retro_base::{MAX_NEXT, MAX_ROWS, NoMemory, Op};
 use script_grammar::Spot;
@@ -24,10 +23,11 @@ use timeline_undo::{EditError, Target, Turn, Turns, UndoError};
 impl NamedTimeline {
     ghost use Rattle.workbench.specs.Bench.{IsUnspent};
     ghost use Rattle.workbench.specs.Outcome.{is_refusal};
-    ghost use Rattle.workbench.specs.TimelineEffects.{TimelineEffect, changes, deletes, inserts, inserts_there, refuses, shifts, shifts_there, undoes, redoes, where_one_fits};
+    ghost use Rattle.workbench.specs.TimelineEffects.{TimelineEffect, changes, deletes, inserts, refuses, shifts, shifts_there, undoes, redoes, where_one_fits};
 
     /// Puts a row in at a spot, where the edited rows replay whole. After a refusal and after `NoMemory`
     /// all is as before.
+    #[inline(never)]
     pub(crate) fn insert(&mut self, spot: Spot, op: Op) -> Result<Outcome, NoMemory>
         requires unspent { IsUnspent self.old }
         ensures ok { IfOk result (λ outcome. inserts self.old.timeline spot op ≡ record { timeline = self.new.timeline; outcome = outcome }) }
@@ -38,9 +38,18 @@ impl NamedTimeline {
         if !self.takes(op) {
             return Ok(Outcome::refused(Refusal::Kind));
         }
-        match position_of(self.session.timeline(), spot) {
-            Some(position) => self.insert_at(position, op),
-            None => Ok(no_row(row_named(spot))),
+        let Some(position) = position_of(self.session.timeline(), spot) else {
+            return Ok(no_row(row_named(spot)));
+        };
+        if let Some(refusal) = self.refusal_of_one_more() {
+            return Ok(Outcome::refused(refusal));
+        }
+        match self.session.insert(position.place, position.time, op) {
+            Ok(turn) => {
+                let number = turn.row.number;
+                Ok(self.tell(turn, Outcome::Inserted { number }))
+            }
+            Err(error) => refused_by(error),
         }
     }
 
@@ -67,31 +76,9 @@ impl NamedTimeline {
         }
     }
 
-    /// Puts a row in at a position, where there is room and the edited rows replay whole.
-    fn insert_at(&mut self, position: Position, op: Op) -> Result<Outcome, NoMemory>
-        requires unspent { IsUnspent self.old }
-        requires of_kind { kind_of op ≡ self.old.timeline.kind }
-        requires within { position.place ≤ length self.old.timeline.rows }
-        requires fits { Fits self.old.timeline.rows position.place position.time }
-        ensures ok { IfOk result (λ outcome. inserts_there self.old.timeline op position ≡ record { timeline = self.new.timeline; outcome = outcome }) }
-        ensures unspent { IsUnspent self.new }
-        ensures err { OnErr result (self.new ≡ self.old) }
-        ensures memory { OnErr result (is_refusal (inserts_there self.old.timeline op position).outcome ≡ false) }
-    {
-        if let Some(refusal) = self.refusal_of_one_more() {
-            return Ok(Outcome::refused(refusal));
-        }
-        match self.session.insert(position.place, position.time, op) {
-            Ok(turn) => {
-                let number = turn.row.number;
-                Ok(self.tell(turn, Outcome::Inserted { number }))
-            }
-            Err(error) => refused_by(error),
-        }
-    }
-
     /// Takes the row with this number out, where the edited rows replay whole. After a refusal and after
     /// `NoMemory` all is as before.
+    #[inline(never)]
     pub(crate) fn delete(&mut self, number: u32) -> Result<Outcome, NoMemory>
         requires unspent { IsUnspent self.old }
         ensures ok { IfOk result (λ outcome. deletes self.old.timeline number ≡ record { timeline = self.new.timeline; outcome = outcome }) }

@@ -7,8 +7,8 @@ ghost use Rattle.script_grammar.specs.Command.{IsProper};
 ghost use Rattle.timeline_file.specs.Block.{finished};
 ghost use Rattle.workbench.specs.Bench.{IsUnspent, has_timeline, is_kept_as, is_named, named, timeline_of};
 ghost use Rattle.workbench.specs.Outcome.{is_refusal};
-ghost use Rattle.workbench.specs.Reaction.{closes, loads, obeys, of_block, on_named, starts};
-ghost use Rattle.workbench.specs.AnsweredLine.{performs, told};
+ghost use Rattle.workbench.specs.Reaction.{closes, loads, obeys, of_block, starts};
+ghost use Rattle.workbench.specs.AnsweredLine.{told};
 
 use crate::named_timeline::NamedTimeline;
 use crate::open_block::OpenBlock;
@@ -74,7 +74,14 @@ impl Timelines {
                 | Command::Ask { name, .. }
                 | Command::Undo { name }
                 | Command::Redo { name }
-                | Command::Save { name } => self.perform_by(name, command, answer),
+                | Command::Save { name } => match self.index_of(name) {
+                    Some(index) => {
+                        let refused = self.timelines[index].perform(command, answer);
+                        let_go_if_spent(&mut self.timelines, index);
+                        refused
+                    }
+                    None => tell_refusal(Refusal::NoTimeline { name: *name }, answer),
+                },
                 Command::New { name, kind, fused } => self.start_into(*name, *kind, *fused, answer),
                 Command::Mute { index } => tell_refusal(
                     Refusal::NoFollower { number: *index },
@@ -84,27 +91,6 @@ impl Timelines {
             },
             Err(LineError::Long) => tell_refusal(Refusal::Long, answer),
             Err(LineError::Syntax) => tell_refusal(Refusal::Syntax, answer),
-        }
-    }
-
-    /// Has the timeline of this name do what a command asks of it.
-    fn perform_by(
-        &mut self,
-        name: &Name,
-        command: &Command,
-        answer: &mut Text,
-    ) -> Result<bool, NoMemory>
-        requires empty { answer.old ≡ [] }
-        ensures { IfOk result (λ refused. told (on_named name.now (λ timeline. performs timeline command.now) self.old)
-            ≡ record { timelines = self.new; answer = answer.new; refused = refused }) }
-    {
-        match self.index_of(name) {
-            Some(index) => {
-                let refused = self.timelines[index].perform(command, answer);
-                let_go_if_spent(&mut self.timelines, index);
-                refused
-            }
-            None => tell_refusal(Refusal::NoTimeline { name: *name }, answer),
         }
     }
 

@@ -9,11 +9,17 @@ returns-in-Ask-clause-told c =
     (told_by_one c.ask.result (unchanged c.args.self.now.timeline (answers c.args.self.now.timeline c.in-Ask.moment c.in-Ask.query)) c.args.self.now.timeline _ c.args.answer.now
     c.ask.new.answer refl c.ask.ensures.answer c.ask.ensures.refused)
 
-pub returns-in-Insert-clause-told : goal.returns-in-Insert-clause-told
-returns-in-Insert-clause-told c = rw c.in-Insert.is c.put_row.ensures.told
+pub returns-in_ok-insert-in-Insert-clause-told : goal.returns-in_ok-insert-in-Insert-clause-told
+returns-in_ok-insert-in-Insert-clause-told c =
+    rw c.in-Insert.is
+    (told_by_one c.tell.result _ c.insert.new.self.timeline c.in_ok-insert-in-Insert.field-0 c.args.answer.now c.tell.new.answer c.in_ok-insert-in-Insert.ensures.ok
+    c.tell.ensures.answer c.tell.ensures.refused)
 
-pub returns-in-Delete-clause-told : goal.returns-in-Delete-clause-told
-returns-in-Delete-clause-told c = rw c.in-Delete.is c.take_row.ensures.told
+pub returns-in_ok-delete-in-Delete-clause-told : goal.returns-in_ok-delete-in-Delete-clause-told
+returns-in_ok-delete-in-Delete-clause-told c =
+    rw c.in-Delete.is
+    (told_by_one c.tell-in-Delete.result _ c.delete.new.self.timeline c.in_ok-delete-in-Delete.field-0 c.args.answer.now c.tell-in-Delete.new.answer c.in_ok-delete-in-Delete.ensures.ok
+    c.tell-in-Delete.ensures.answer c.tell-in-Delete.ensures.refused)
 
 pub returns-in_default-clause-told : goal.returns-in_default-clause-told
 returns-in_default-clause-told c =
