@@ -1,4 +1,4 @@
-use Rattle.std.proofs.Common.{◌-◌, Some, sym, ap, ◌∙◌, arith}
+use Rattle.std.proofs.Common.{Some, sym, ap, ◌∙◌, arith}
 use Rattle.order_timeline.proofs.FilledRuns.{count_few, first_of_divided, second_of_divided}
 use Rattle.order_timeline.proofs.InRuns.{all_rows, few_divided, first_takes, second_takes}
 use Rattle.order_timeline.proofs.Totals.{run_within}
