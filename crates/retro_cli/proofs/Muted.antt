@@ -42,10 +42,12 @@ module _ (bench : Bench) (who : Audience) (bytes : List ℕ) (long : Bool) (numb
   of_follower None left some P holds = absurd (cc)
   of_follower (Some report) left some P holds = rw (turn_is report left) holds
 
--- the bench answers, and its events were heard
-pub answered_by_bench : (turn : Turn) (who now : Audience) (reaction : Reaction) → turn ≡ answers who reaction → (result : Result Bool Stop) (state : BenchState)
-    → IfOk result (λ refused. (state ≡ record { bench = reaction.bench; spent = false }) × (refused ≡ reaction.refused))
-    → OnOk result (now ≡ hears (events_among reaction.answer) who)
-    → IfOk result (λ refused. (state ≡ record { bench = turn.reaction.bench; spent = false }) × (refused ≡ turn.reaction.refused) × (now ≡ turn.audience))
-answered_by_bench turn who now reaction is (Err stop) state holds heard = tt
-answered_by_bench turn who now reaction is (Ok refused) state holds heard = rw is (holds.0, holds.1, heard)
+-- the bench answered a line, and its events were heard
+module _ (turn : Turn) (who : Audience) (reaction : Reaction) (state : BenchState) (text : List ℕ) (refused : Bool) (is : turn ≡ answers who reaction)
+    (reacts : reaction ≡ record { bench = state.bench; answer = text; refused = refused }) where
+  pub answered_by_bench : (now : Audience) → state.spent ≡ false → now ≡ hears (events_among text) who
+      → (state ≡ record { bench = turn.reaction.bench; spent = false }) × (refused ≡ turn.reaction.refused) × (now ≡ turn.audience)
+  answered_by_bench now unspent heard = rw (is, reacts, heard) (rw (← unspent) refl, refl, refl)
+
+  pub answer_of_bench : text ≡ turn.reaction.answer
+  answer_of_bench = rw (is, reacts) refl

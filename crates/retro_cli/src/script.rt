@@ -6,15 +6,14 @@ ghost use Rattle.retro_io.specs.Faults.{CountsFaults};
 ghost use Rattle.retro_io.specs.Flushes.{EndsWithFailedSend, StaysUnflushed};
 ghost use Rattle.retro_io.specs.LineReader.{IsUnread, MovesOn, held, limit_of, source_of, taken};
 ghost use Rattle.retro_io.specs.Lines.{has_line_feed, lines};
-ghost use Rattle.retro_cli.specs.Audience.{audience_after, audience_by, followed, follows_to, hears};
+ghost use Rattle.retro_cli.specs.Audience.{audience_after, audience_by, followed, follows_to};
 ghost use Rattle.retro_cli.specs.Delivery.{Writes};
 ghost use Rattle.retro_cli.specs.Ends.{EndsUnflushed, ScriptStands};
-ghost use Rattle.retro_cli.specs.Events.{events_among};
 ghost use Rattle.retro_cli.specs.Promise.{HasCause};
 ghost use Rattle.retro_cli.specs.Run.{AppendsOutput};
 ghost use Rattle.retro_cli.specs.Stop.{StopsReading, status_after, stops_at_read, stops_at_write};
 ghost use Rattle.workbench.specs.Bench.{empty_bench};
-ghost use Rattle.workbench.specs.Reaction.{closing, reacts_to};
+ghost use Rattle.workbench.specs.Reaction.{closing};
 
 use crate::MAX_BYTES;
 use crate::deliver::{append, send};
@@ -48,31 +47,9 @@ fn answer_line<K: SendingSink>(
         sink.old sink.new result }
     ensures sink_faults { CountsFaults (stops_at_write result) (K.faults sink.old) (K.faults sink.new) }
 {
-    match muted(line, long, bench, followers) {
-        Some(number) => answer_by_follower(number, followers, answer, sink),
-        None => answer_by_bench(line, long, bench, followers, answer, sink),
+    if let Some(number) = muted(line, long, bench, followers) {
+        return answer_by_follower(number, followers, answer, sink);
     }
-}
-
-/// Does what one line asks for, hands the events of the answer to the followers, and writes it.
-fn answer_by_bench<K: SendingSink>(
-    line: &[u8],
-    long: bool,
-    bench: &mut Bench,
-    followers: &mut [Option<Box<dyn Follower>>],
-    answer: &mut Text,
-    sink: &mut K,
-) -> Result<bool, Stop>
-    requires within { length line.now ≤ longest_line }
-    requires full { IsTrue long → length line.now ≡ longest_line }
-    requires unspent { bench.old.spent ≡ false }
-    ensures answered { IfOk result (λ refused. let reaction = reacts_to bench.old.bench line.now long in
-        (bench.new ≡ record { bench = reaction.bench; spent = false }) × (refused ≡ reaction.refused)) }
-    ensures handed { OnOk result (audience_by report_after followers.new
-        ≡ hears (events_among (reacts_to bench.old.bench line.now long).answer) (audience_by report_after followers.old)) }
-    ensures writes { Writes ⟦<K as Sink>⟧ K.sends (reacts_to bench.old.bench line.now long).answer (sink.new ≡ sink.old) sink.old sink.new result }
-    ensures sink_faults { CountsFaults (stops_at_write result) (K.faults sink.old) (K.faults sink.new) }
-{
     let refused = bench.line_into(line, long, answer)?;
     hand_on(answer.as_bytes(), followers)?;
     append(answer.as_bytes(), sink)?;
@@ -114,14 +91,16 @@ fn send_before_read<S: Source, K: SendingSink>(
     }
 }
 
-/// Answers the lines that a reader gives, up to the end of the input. The answer to each is written before the next one is read,
-/// and where the source is read for that, it is sent before. One text holds each answer in its turn.
+/// Answers the lines that a reader gives, up to the end of the input, by a new bench. The answer to each is written before the next one
+/// is read, and where the source is read for that, it is sent before. One text holds each answer in its turn.
 fn answer_lines<S: Source, K: SendingSink>(
-    alloc: Global,
     reader: &mut SentReader<'_, S>,
+    bench: &mut Bench,
     followers: &mut [Option<Box<dyn Follower>>],
+    answer: &mut Text,
     sink: &mut K,
 ) -> Result<bool, Stop>
+    requires new { bench.old ≡ record { bench = empty_bench; spent = false } }
     requires unread { IsUnread reader.old.reader }
     requires limit { limit_of reader.old.reader ≡ most_bytes }
     ensures moves { MovesOn reader.old.reader reader.new.reader }
@@ -136,8 +115,6 @@ fn answer_lines<S: Source, K: SendingSink>(
     ensures too_long { IsErrOf result Stop.TooLong ↔ (taken reader.new.reader ≡ limit_of reader.new.reader + 1) }
     ensures sent { IfErr result (λ stop. StopsReading stop → K.waiting sink.new ≡ []) }
 {
-    let mut bench = Bench::new(alloc);
-    let mut text = Text::new(alloc);
     let mut refused = false;
     loop {
         send_before_read(reader, sink)?;
@@ -145,11 +122,11 @@ fn answer_lines<S: Source, K: SendingSink>(
             Mark::Whole => false,
             Mark::Long => true,
             Mark::End => {
-                refused |= answer_end(&mut bench, &mut text, sink)?;
+                refused |= answer_end(bench, answer, sink)?;
                 return Ok(refused);
             }
         };
-        refused |= answer_line(reader.line(), long, &mut bench, followers, &mut text, sink)?;
+        refused |= answer_line(reader.line(), long, bench, followers, answer, sink)?;
     }
 }
 
@@ -171,8 +148,11 @@ pub(crate) fn answer_source<S: Source, K: SendingSink>(
 {
     let buffer = LineBuffer::new(alloc)?;
     let mut reader = SentReader::new(LineReader::with_buffer(buffer, source, MAX_BYTES));
-    let answered = answer_lines(alloc, &mut reader, followers, sink);
+    let mut bench = Bench::new(alloc);
+    let mut text = Text::new(alloc);
+    let answered = answer_lines(&mut reader, &mut bench, followers, &mut text, sink);
     // Its clause says what became of the source.
     let _source = reader.into_inner();
+    drop(bench);
     answered
 }

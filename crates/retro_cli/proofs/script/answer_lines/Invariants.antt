@@ -6,8 +6,8 @@ use Rattle.retro_cli.specs.Audience.{audience_by}
 use Rattle.retro_cli.proofs.Ends.{WentOn}
 use Rattle.retro_cli.proofs.script.answer_lines.Given as goal
 
-abbrev pub invariant-loop-text : goal.invariant-loop-text
-invariant-loop-text g l = record {
+abbrev pub invariant-loop-reader : goal.invariant-loop-reader
+invariant-loop-reader g l = record {
   moves : MovesOn l.fn.reader.reader l.reader.reader;
   unspent : l.bench.spent ≡ false;
   failed : has_failed l.reader.reader ≡ false;
@@ -19,5 +19,5 @@ invariant-loop-text g l = record {
       l.bench.bench (audience_by (λ b. (goal.Follower-dyn g (b.vtable, b.value)).report_after b.value) l.followers) l.refused;
 }
 
-abbrev pub decreases-loop-text : goal.decreases-loop-text
-decreases-loop-text g l = limit_of l.reader.reader + 1 - given l.reader.reader
+abbrev pub decreases-loop-reader : goal.decreases-loop-reader
+decreases-loop-reader g l = limit_of l.reader.reader + 1 - given l.reader.reader
