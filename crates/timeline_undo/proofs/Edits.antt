@@ -1,11 +1,13 @@
 -- An edit that leaves a timeline could be made, and the edit that takes it back leads to the rows before it.
-use Rattle.std.proofs.Common.{◌≡◌, ℕ, zero, suc, ◌<◌, ◌≤◌, List, [], ◌∷◌, slice_get, Some, refl, arith}
+use Rattle.std.proofs.Common.{◌≡◌, ℕ, zero, suc, ◌<◌, ◌≤◌, List, [], ◌∷◌, slice_get, Some, Result, Ok, Err, IfOk, refl, ◌∙◌, ap, arith}
 use Rattle.std.specs.List.{insert, remove}
 use Rattle.retro_base.specs.declared.row.Row.{Row}
 use Rattle.retro_base.specs.Edits.{Edit, add, cut, inverse}
 use Rattle.retro_base.specs.MadeEdits.{all_inserted}
 use Rattle.retro_base.specs.Order.{Fits}
 use Rattle.retro_base.specs.Timeline.{TimesNeverFall}
+use Rattle.timeline_undo.specs.declared.turn.Turn.{Turn}
+use Rattle.timeline_undo.specs.Session.{edit_reported}
 
 -- the time of a row that came did fit
 pub did_fit : (rows : List Row) (place : ℕ) (row : Row) → TimesNeverFall (insert rows place row) → Fits rows place row.time
@@ -30,3 +32,10 @@ left_after [] place i x after there = absurd (cc)
 left_after (y ∷ ys) zero i x after there = there
 left_after (y ∷ ys) (suc place) zero x after there = absurd (omega arith)
 left_after (y ∷ ys) (suc place) (suc i) x after there = left_after ys place i x (omega arith) there
+
+-- the row that was taken out is the one that stood there
+pub told_as_cut : {E : Type 0} (rows : List Row) (place : ℕ) (row : Row) (result : Result Turn E) → slice_get rows place ≡ Some row
+    → IfOk result (λ turn. slice_get rows place ≡ Some turn.row) → IfOk result (λ turn. edit_reported turn ≡ cut place turn.row)
+    → IfOk result (λ turn. edit_reported turn ≡ cut place row)
+told_as_cut rows place row (Ok turn) there taken told = let same : turn.row ≡ row = cc in told ∙ ap (cut place) same
+told_as_cut rows place row (Err error) there taken told = tt

@@ -1,14 +1,16 @@
 -- Edits that can be made one after another.
-use Rattle.std.proofs.Common.{◌≡◌, ℕ, ap, ◌∙◌, ◌+◌, ◌<◌, ◌≤◌, List, [], ◌∷◌, ◌++◌, arith}
+use Rattle.std.proofs.Common.{◌≡◌, ℕ, ap, ◌∙◌, ◌+◌, ◌<◌, ◌≤◌, List, [], ◌∷◌, ◌++◌, append_assoc, map, arith}
+use Rattle.std.proofs.lemmas.List.{reverse-append}
 use Rattle.retro_base.specs.declared.kind.Kind.{Kind}
 use Rattle.retro_base.specs.declared.row.Row.{Row}
 use Rattle.retro_base.specs.Limits.{next_limit}
-use Rattle.retro_base.specs.Edits.{Edit, edited, edited_by, inverse, inverse_step, IsWithin}
+use Rattle.retro_base.specs.Edits.{Edit, Step, edited, edited_by, inverse, inverse_step, IsWithin}
 use Rattle.retro_base.specs.OrderLaws.{all_weaker}
 use Rattle.retro_base.specs.Timeline.{IsTimeline}
-use Rattle.timeline_undo.specs.declared.history.HistoryStep.{HistoryStep}
-use Rattle.timeline_undo.specs.declared.history.HistoryStep.TheVariants.{Single, Double}
-use Rattle.timeline_undo.specs.KeptSteps.{AreReady, CanBeMadeInTurn, edit_of, step_of}
+use Rattle.timeline_undo.specs.declared.turn.Turns.{Turns}
+use Rattle.timeline_undo.specs.declared.turn.Turns.TheVariants.{Single, Double}
+use Rattle.timeline_undo.specs.KeptSteps.{AreReady, CanBeMadeInTurn, taken_back}
+use Rattle.timeline_undo.specs.Session.{edit_reported, step_reported}
 use Rattle.timeline_undo.proofs.Edits.{inverse_twice}
 use Rattle.retro_base.specs.EditedLists.{can_go_back, there_and_back}
 
@@ -50,13 +52,16 @@ in_turn_back kind next rows edit more within timeline turn =
     (record { within = can_go_back rows edit within; timeline = rw back timeline }, rw back turn)
 
 -- and so it is after a step
-pub step_back : (kind : Kind) (next : ℕ) (rows : List Row) (noted : HistoryStep) (more : List Edit) → IsTimeline kind rows next
-    → CanBeMadeInTurn kind next rows (step_of noted) → CanBeMadeInTurn kind next rows more
-    → CanBeMadeInTurn kind next (edited_by rows (step_of noted)) (inverse_step (step_of noted) ++ more)
-step_back kind next rows (Single edit) more timeline made turn = in_turn_back kind next rows (edit_of edit) more made.0.within timeline turn
-step_back kind next rows (Double first second) more timeline made turn =
-    in_turn_back kind next (edited rows (edit_of first)) (edit_of second) (inverse (edit_of first) ∷ more) made.1.0.within made.0.timeline
-    (in_turn_back kind next rows (edit_of first) more made.0.within timeline turn)
+pub step_back : (kind : Kind) (next : ℕ) (rows : List Row) (step : Step) (more : List Edit) → IsTimeline kind rows next
+    → CanBeMadeInTurn kind next rows step → CanBeMadeInTurn kind next rows more
+    → CanBeMadeInTurn kind next (edited_by rows step) (inverse_step step ++ more)
+step_back kind next rows [] more timeline made turn = turn
+step_back kind next rows (edit ∷ step) more timeline made turn =
+    let same : inverse_step (edit ∷ step) ++ more ≡ inverse_step step ++ inverse edit ∷ more =
+    ap (λ edits. edits ++ more) (reverse-append (inverse edit ∷ []) (map inverse step))
+    ∙ append_assoc (inverse_step step) (inverse edit ∷ []) more in
+    rw same (step_back kind next (edited rows edit) step (inverse edit ∷ more) made.0.timeline made.1
+    (in_turn_back kind next rows edit more made.0.within timeline turn))
 
 -- the rows after them are a timeline
 pub timeline_after : (kind : Kind) (next : ℕ) (rows : List Row) (edits : List Edit) → IsTimeline kind rows next
@@ -71,7 +76,11 @@ ready kind next rows (edit ∷ more) turn =
     (turn.0.within, turn.0.timeline.in_order, turn.0.timeline.replayable, ready kind next (edited rows edit) more turn.1)
 
 -- a step that is taken back twice
-pub inverse_step_twice : (noted : HistoryStep) → inverse_step (inverse_step (step_of noted)) ≡ step_of noted
-inverse_step_twice (Single edit) = ap (λ e. e ∷ []) (inverse_twice (edit_of edit))
+inverse_step_twice : (turns : Turns) → inverse_step (taken_back turns) ≡ step_reported turns
+inverse_step_twice (Single turn) = ap (λ e. e ∷ []) (inverse_twice (edit_reported turn))
 inverse_step_twice (Double first second) =
-    ap (λ e. e ∷ inverse (inverse (edit_of second)) ∷ []) (inverse_twice (edit_of first)) ∙ ap (λ e. edit_of first ∷ e ∷ []) (inverse_twice (edit_of second))
+    ap (λ e. e ∷ inverse (inverse (edit_reported second)) ∷ []) (inverse_twice (edit_reported first))
+    ∙ ap (λ e. edit_reported first ∷ e ∷ []) (inverse_twice (edit_reported second))
+
+pub back_twice : (told last : Turns) → step_reported told ≡ taken_back last → taken_back told ≡ step_reported last
+back_twice told last is = ap inverse_step is ∙ inverse_step_twice last

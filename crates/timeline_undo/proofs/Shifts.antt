@@ -7,7 +7,7 @@ use Rattle.circular_buffer.specs.Buffer.{Buffer}
 use Rattle.retro_base.specs.declared.kind.Kind.{Kind}
 use Rattle.retro_base.specs.declared.row.Row.{Row}
 use Rattle.retro_base.specs.EditedLists.{can_go_back, remove-insert}
-use Rattle.retro_base.specs.Edits.{Step, add, cut, edited_by, failing_row}
+use Rattle.retro_base.specs.Edits.{Edit, Step, add, cut, edited_by, failing_row}
 use Rattle.retro_base.specs.Kind.{adds, kind_of}
 use Rattle.retro_base.specs.Limits.{most_rows}
 use Rattle.retro_base.specs.Order.{Fits}
@@ -23,11 +23,13 @@ use Rattle.retro_base.specs.lemmas.GivingEdits.{adding_row_replays, taking_row_c
 use Rattle.timeline_undo.specs.declared.replacement.Replacement.{Replacement}
 use Rattle.timeline_undo.specs.declared.shift.Target.{Target}
 use Rattle.timeline_undo.specs.declared.shift.Target.TheVariants.{At, Into}
-use Rattle.timeline_undo.specs.KeptSteps.{CanBeMadeInTurn, steps_of}
-use Rattle.timeline_undo.specs.Replaced.{Replaces, replaced, replacement_of, step_of_replacement}
+use Rattle.timeline_undo.specs.KeptSteps.{CanBeMadeInTurn, steps_of, undone_steps_of}
+use Rattle.timeline_undo.specs.Replaced.{Replaces, before_without, replaced, replacement_of, step_of_replacement}
 use Rattle.timeline_undo.specs.declared.error.EditError.{EditError}
-use Rattle.timeline_undo.specs.declared.history.HistoryStep.{HistoryStep}
-use Rattle.timeline_undo.specs.Session.{FailsFirst, HasRoom, IsLeftByShift, IsShiftUnmade, IsStepCause, IsUnmade, SessionState}
+use Rattle.timeline_undo.specs.declared.turn.Turn.{Turn}
+use Rattle.timeline_undo.specs.declared.turn.Turns.{Turns}
+use Rattle.timeline_undo.specs.declared.turn.Turns.TheVariants.{Single, Double}
+use Rattle.timeline_undo.specs.Session.{FailsFirst, HasRoom, IsLeftByShift, IsShiftUnmade, IsStepCause, IsUnmade, SessionState, step_reported}
 use Rattle.timeline_undo.specs.Shift.{IsTargetOf, index_after, place_for, put_then_cut, cut_then_put, replacing, shift_at, shift_of}
 use Rattle.timeline_undo.proofs.InTurn.{timeline_later}
 use Rattle.timeline_undo.proofs.Replaced.{edited_is_replaced, replacement_is_shift}
@@ -52,7 +54,7 @@ new_of_kind : (kind : Kind) (target : Target) (number : ℕ) (old : Row) → kin
 new_of_kind kind (At time) number old was here = was
 new_of_kind kind (Into op) number old was here = here
 
-pub drawn_number : (target : Target) (number : ℕ) (old : Row) → (replacing target number old).number ≡ number
+drawn_number : (target : Target) (number : ℕ) (old : Row) → (replacing target number old).number ≡ number
 drawn_number (At time) number old = refl
 drawn_number (Into op) number old = refl
 
@@ -191,10 +193,9 @@ shift_stands kind rows next target index old may valid =
     ] refl
 
 -- what the edits of a replacement and the row that fails say of the step
-pub edits_are_shift : (rows : List Row) (target : Target) (next index : ℕ) (old : Row) (r : Replacement) (edits : Step) → TimesNeverFall rows
-    → slice_get rows index ≡ Some old → r ≡ replacement_of rows target next index old → edits ≡ step_of_replacement r → edits ≡ shift_of rows target next index old
-edits_are_shift rows target next index old r edits never there is made =
-    made ∙ ap step_of_replacement is ∙ replacement_is_shift rows target next index old never there
+pub edits_are_shift : (rows : List Row) (target : Target) (next index : ℕ) (old : Row) (r : Replacement) → TimesNeverFall rows
+    → slice_get rows index ≡ Some old → r ≡ replacement_of rows target next index old → step_of_replacement r ≡ shift_of rows target next index old
+edits_are_shift rows target next index old r never there is = ap step_of_replacement is ∙ replacement_is_shift rows target next index old never there
 
 pub replaces_by : (kind : Kind) (rows : List Row) (next : ℕ) (target : Target) (index : ℕ) (old : Row) (r : Replacement) → MayShift kind rows next target index old
     → r ≡ replacement_of rows target next index old → Replaces kind rows r
@@ -213,12 +214,24 @@ none_failing kind rows next target index old r failing may is found none =
     none_fails kind (edited_by rows (shift_of rows target next index old)) (sym (names_failing kind rows next target index old r failing may is found) ∙ none)
 
 -- the edits can be made in turn where no row fails
-pub edits_stand : (kind : Kind) (rows : List Row) (next : ℕ) (target : Target) (index : ℕ) (old : Row) (r : Replacement) (failing : Option Row) (edits : Step)
+pub edits_stand : (kind : Kind) (rows : List Row) (next : ℕ) (target : Target) (index : ℕ) (old : Row) (r : Replacement) (failing : Option Row)
     → MayShift kind rows next target index old → r ≡ replacement_of rows target next index old → failing ≡ failing_row kind (replaced rows r) → failing ≡ None
-    → edits ≡ step_of_replacement r → CanBeMadeInTurn kind (next + 1) rows edits
-edits_stand kind rows next target index old r failing edits may is found none made =
-    subst (CanBeMadeInTurn kind (next + 1) rows) (sym (edits_are_shift rows target next index old r edits may.timeline.in_order may.there is made))
+    → CanBeMadeInTurn kind (next + 1) rows (step_of_replacement r)
+edits_stand kind rows next target index old r failing may is found none =
+    subst (CanBeMadeInTurn kind (next + 1) rows) (sym (edits_are_shift rows target next index old r may.timeline.in_order may.there is))
     (shift_stands kind rows next target index old may (none_failing kind rows next target index old r failing may is found none))
+
+-- what is told of them is two turns
+two_of_two : (turns : Turns) (one other : Edit) → step_reported turns ≡ one ∷ other ∷ [] → (first : Turn) × (second : Turn) × (turns ≡ Double first second)
+two_of_two (Single turn) one other is = absurd (cc)
+two_of_two (Double first second) one other is = (first, second, refl)
+
+pub two_turns : (r : Replacement) (turns : Turns) → step_reported turns ≡ step_of_replacement r → (first : Turn) × (second : Turn) × (turns ≡ Double first second)
+two_turns r turns is =
+    elim (adds r.new.op) as (λ b. adds r.new.op ≡ b → (first : Turn) × (second : Turn) × (turns ≡ Double first second)) [
+      | true ↦ λ e. two_of_two turns (add r.before r.new) (cut (index_after r.before r.index) r.old) (rw e at is)
+      | false ↦ λ e. two_of_two turns (cut r.index r.old) (add (before_without r.index r.before) r.new) (rw e at is)
+    ] refl
 
 -- a row stands at the index
 pub if_there : (P : Step → Type 0) (rows : List Row) (target : Target) (next index : ℕ) (old : Row) → slice_get rows index ≡ Some old
@@ -227,9 +240,9 @@ if_there P rows target next index old there holds =
     subst (λ (o : Option Row). IfSome (option_map (shift_of rows target next index) o) P) (sym there) holds
 
 -- why it is not replaced
-abbrev pub seen : Kind → List Row → ℕ → Buffer HistoryStep → Buffer HistoryStep → Bool → SessionState
+abbrev pub seen : Kind → List Row → ℕ → Buffer Turns → Buffer Turns → Bool → SessionState
 seen kind rows next undo redo spent =
-    record { kind = kind; rows = rows; next = next; history = record { undo = steps_of undo.items; redo = steps_of redo.items }; spent = spent }
+    record { kind = kind; rows = rows; next = next; history = record { undo = steps_of undo.items; redo = undone_steps_of redo.items }; spent = spent }
 
 pub unmade : (before after : SessionState) (target : Target) (place : ℕ) (old : Row) (error : EditError) → slice_get before.rows place ≡ Some old
     → IsStepCause before.kind before.rows (shift_of before.rows target before.next place old) error

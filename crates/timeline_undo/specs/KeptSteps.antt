@@ -5,28 +5,24 @@ use Rattle.circular_buffer.specs.Buffer.{Buffer}
 use Rattle.retro_base.specs.declared.kind.Kind.{Kind}
 use Rattle.retro_base.specs.declared.row.Row.{Row}
 use Rattle.retro_base.specs.Limits.{most_steps}
-use Rattle.retro_base.specs.Edits.{Edit, Step, add, cut, edited, inverse_step, IsWithin}
+use Rattle.retro_base.specs.Edits.{Edit, Step, edited, inverse_step, IsWithin}
 use Rattle.retro_base.specs.Timeline.{IsReplayable, IsTimeline, TimesNeverFall}
 use Rattle.timeline_undo.specs.declared.edit.Interrupted.{Interrupted}
 use Rattle.timeline_undo.specs.declared.edit.Interrupted.TheVariants.{AtOnce, Midway}
-use Rattle.timeline_undo.specs.declared.history.HistoryEdit.{HistoryEdit}
-use Rattle.timeline_undo.specs.declared.history.HistoryEdit.TheVariants.{Added, Taken}
-use Rattle.timeline_undo.specs.declared.history.HistoryStep.{HistoryStep}
-use Rattle.timeline_undo.specs.declared.history.HistoryStep.TheVariants.{Single, Double}
+use Rattle.timeline_undo.specs.declared.turn.Turns.{Turns}
+use Rattle.timeline_undo.specs.Session.{step_reported}
 
--- the edit that is noted
-abbrev pub edit_of : HistoryEdit → Edit
-edit_of (Added place row) = add place row
-edit_of (Taken place row) = cut place row
+-- the step that takes back what turns tell
+abbrev pub taken_back : Turns → Step
+taken_back turns = inverse_step (step_reported turns)
 
--- the step that is noted
-abbrev pub step_of : HistoryStep → Step
-step_of (Single edit) = edit_of edit ∷ []
-step_of (Double first second) = edit_of first ∷ edit_of second ∷ []
+-- the steps that can be undone, of a ring that keeps them as they were told
+abbrev pub steps_of : List Turns → List Step
+steps_of told = map step_reported told
 
--- the steps that a ring keeps
-abbrev pub steps_of : List HistoryStep → List Step
-steps_of noted = map step_of noted
+-- the steps that can be redone, of a ring that keeps what their undos told
+abbrev pub undone_steps_of : List Turns → List Step
+undone_steps_of told = map taken_back told
 
 -- the edit can be made in these rows, and leaves a timeline
 pub record CanBeMadeIn (kind : Kind) (next : ℕ) (rows : List Row) (edit : Edit) : Type 0 where
@@ -51,19 +47,16 @@ IsLeftMidway before [] after Midway = ⊥
 IsLeftMidway before (edit ∷ []) after Midway = ⊥
 IsLeftMidway before (first ∷ second ∷ more) after Midway = after ≡ edited before first
 
--- the edits of a ring, those of the newest step first: those that are redone, and those that undo
-abbrev pub latest : List HistoryStep → List Edit
-latest noted = flat_map step_of (reverse noted)
-
-abbrev pub latest_undone : List HistoryStep → List Edit
-latest_undone noted = flat_map (λ step. inverse_step (step_of step)) (reverse noted)
+-- the edits that take the steps of a ring back, those of the newest step first
+abbrev pub edits_back : List Turns → List Edit
+edits_back told = flat_map taken_back (reverse told)
 
 -- the structure performs the rows of the timeline; the rings have room, and what they keep can be undone and redone
-pub record IsSession (kind : Kind) (performed rows : List Row) (next : ℕ) (undo redo : Buffer HistoryStep) : Type 0 where
+pub record IsSession (kind : Kind) (performed rows : List Row) (next : ℕ) (undo redo : Buffer Turns) : Type 0 where
   pub same : performed ≡ rows
   pub timeline : IsTimeline kind rows next
   pub undo_room : undo.capacity ≡ most_steps
   pub redo_room : redo.capacity ≡ most_steps
   pub few : length undo.items + length redo.items ≤ most_steps
-  pub undoable : CanBeMadeInTurn kind next rows (latest_undone undo.items)
-  pub redoable : CanBeMadeInTurn kind next rows (latest redo.items)
+  pub undoable : CanBeMadeInTurn kind next rows (edits_back undo.items)
+  pub redoable : CanBeMadeInTurn kind next rows (edits_back redo.items)

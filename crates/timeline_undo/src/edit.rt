@@ -1,15 +1,13 @@
 //! List edits, made in the timeline and in the structure.
 
-ghost use Rattle.std.specs.Prelude.{◌≡◌, ◌≤◌, ◌<◌, [], ◌∷◌, length, slice_get, Some, IfOk, IfErr, OnErr};
+ghost use Rattle.std.specs.Prelude.{◌≡◌, ◌≤◌, ◌<◌, length, slice_get, Some, IfOk, IfErr, OnErr};
 ghost use Rattle.std.specs.List.{insert, remove};
-ghost use Rattle.retro_base.specs.Edits.{add, cut, edited, edited_by, IsWithin};
+ghost use Rattle.retro_base.specs.Edits.{add, cut, edited, edited_by, inverse, IsWithin};
 ghost use Rattle.retro_base.specs.MadeEdits.{IsMade};
 ghost use Rattle.retro_base.specs.Timeline.{IsReplayable, TimesNeverFall};
-ghost use Rattle.timeline_undo.specs.KeptSteps.{AreReady, IsLeftMidway, edit_of, step_of};
+ghost use Rattle.timeline_undo.specs.KeptSteps.{AreReady, IsLeftMidway, taken_back};
 ghost use Rattle.timeline_undo.specs.Session.{AreMade, edit_reported, step_reported};
-ghost use Rattle.timeline_undo.specs.declared.turn.Turns.TheVariants.{Double};
 
-use crate::history::{HistoryEdit, HistoryStep};
 use crate::{Turn, Turns};
 use order_timeline::Timeline;
 use retro_base::{NoMemory, Retro, Row};
@@ -23,82 +21,64 @@ pub(crate) enum Interrupted {
     Midway,
 }
 
-/// Makes the edits of a step in order, in the timeline and in the structure.
-pub(crate) fn make_step<R: Retro>(
+/// Takes a step back, in the timeline and in the structure: makes the inverses of its edits, that of the last one first.
+pub(crate) fn take_back<R: Retro>(
     timeline: &mut Timeline,
     structure: &mut R,
-    step: HistoryStep,
+    step: Turns,
 ) -> Result<Turns, Interrupted>
     requires same { R.rows structure.old ≡ timeline.old }
     requires before { IsReplayable (R.kind structure.old) timeline.old }
-    requires ready { AreReady (R.kind structure.old) timeline.old (step_of step) }
+    requires ready { AreReady (R.kind structure.old) timeline.old (taken_back step) }
     ensures kind { R.kind structure.new ≡ R.kind structure.old }
     ensures same { R.rows structure.new ≡ timeline.new }
-    ensures rows { IfOk result (λ _. timeline.new ≡ edited_by timeline.old (step_of step)) }
-    ensures reported { IfOk result (λ turns. step_reported turns ≡ step_of step) }
+    ensures rows { IfOk result (λ _. timeline.new ≡ edited_by timeline.old (taken_back step)) }
+    ensures reported { IfOk result (λ turns. step_reported turns ≡ taken_back step) }
     ensures made { IfOk result (AreMade (R.kind structure.old) timeline.old) }
-    ensures err { IfErr result (IsLeftMidway timeline.old (step_of step) timeline.new) }
+    ensures err { IfErr result (IsLeftMidway timeline.old (taken_back step) timeline.new) }
 {
     match step {
-        HistoryStep::Single { edit } => match make(timeline, structure, edit) {
+        Turns::Single { turn } => match take_turn_back(timeline, structure, turn) {
             Ok(turn) => Ok(Turns::Single { turn }),
             Err(NoMemory) => Err(Interrupted::AtOnce),
         },
-        HistoryStep::Double { first, second } => {
-            let (first, second) = make_both(timeline, structure, first, second)?;
-            Ok(Turns::Double { first, second })
+        Turns::Double { first, second } => {
+            let Ok(second_back) = take_turn_back(timeline, structure, second) else {
+                return Err(Interrupted::AtOnce);
+            };
+            match take_turn_back(timeline, structure, first) {
+                Ok(first_back) => Ok(Turns::Double {
+                    first: second_back,
+                    second: first_back,
+                }),
+                Err(NoMemory) => Err(Interrupted::Midway),
+            }
         }
     }
 }
 
-/// Makes two edits, one after the other.
-pub(crate) fn make_both<R: Retro>(
+/// Takes a list edit back, in both. After `NoMemory` both are as before.
+fn take_turn_back<R: Retro>(
     timeline: &mut Timeline,
     structure: &mut R,
-    first: HistoryEdit,
-    second: HistoryEdit,
-) -> Result<(Turn, Turn), Interrupted>
-    requires same { R.rows structure.old ≡ timeline.old }
-    requires before { IsReplayable (R.kind structure.old) timeline.old }
-    requires ready { AreReady (R.kind structure.old) timeline.old (edit_of first ∷ edit_of second ∷ []) }
-    ensures kind { R.kind structure.new ≡ R.kind structure.old }
-    ensures same { R.rows structure.new ≡ timeline.new }
-    ensures rows { IfOk result (λ _. timeline.new ≡ edited (edited timeline.old (edit_of first)) (edit_of second)) }
-    ensures first { IfOk result (λ turns. edit_reported turns.0 ≡ edit_of first) }
-    ensures second { IfOk result (λ turns. edit_reported turns.1 ≡ edit_of second) }
-    ensures made { IfOk result (λ turns. AreMade (R.kind structure.old) timeline.old (Double turns.0 turns.1)) }
-    ensures err { IfErr result (IsLeftMidway timeline.old (edit_of first ∷ edit_of second ∷ []) timeline.new) }
-{
-    let Ok(first) = make(timeline, structure, first) else {
-        return Err(Interrupted::AtOnce);
-    };
-    match make(timeline, structure, second) {
-        Ok(second) => Ok((first, second)),
-        Err(NoMemory) => Err(Interrupted::Midway),
-    }
-}
-
-/// Makes an edit in the timeline and in the structure. After `NoMemory` both are as before.
-fn make<R: Retro>(
-    timeline: &mut Timeline,
-    structure: &mut R,
-    edit: HistoryEdit,
+    turn: Turn,
 ) -> Result<Turn, NoMemory>
     requires same { R.rows structure.old ≡ timeline.old }
     requires before { IsReplayable (R.kind structure.old) timeline.old }
-    requires within { IsWithin timeline.old (edit_of edit) }
-    requires in_order { TimesNeverFall (edited timeline.old (edit_of edit)) }
-    requires replayable { IsReplayable (R.kind structure.old) (edited timeline.old (edit_of edit)) }
+    requires within { IsWithin timeline.old (inverse (edit_reported turn)) }
+    requires in_order { TimesNeverFall (edited timeline.old (inverse (edit_reported turn))) }
+    requires replayable { IsReplayable (R.kind structure.old) (edited timeline.old (inverse (edit_reported turn))) }
     ensures kind { R.kind structure.new ≡ R.kind structure.old }
     ensures same { R.rows structure.new ≡ timeline.new }
-    ensures rows { IfOk result (λ _. timeline.new ≡ edited timeline.old (edit_of edit)) }
-    ensures reported { IfOk result (λ turn. edit_reported turn ≡ edit_of edit) }
-    ensures made { IfOk result (λ turn. IsMade (R.kind structure.old) timeline.old (edit_reported turn) turn.change) }
+    ensures rows { IfOk result (λ _. timeline.new ≡ edited timeline.old (inverse (edit_reported turn))) }
+    ensures reported { IfOk result (λ back. edit_reported back ≡ inverse (edit_reported turn)) }
+    ensures made { IfOk result (λ back. IsMade (R.kind structure.old) timeline.old (edit_reported back) back.change) }
     ensures err { OnErr result (timeline.new ≡ timeline.old) }
 {
-    match edit {
-        HistoryEdit::Added { place, row } => put_in_both(timeline, structure, place, row),
-        HistoryEdit::Taken { place, .. } => take_from_both(timeline, structure, place),
+    if turn.added {
+        take_from_both(timeline, structure, turn.place)
+    } else {
+        put_in_both(timeline, structure, turn.place, turn.row)
     }
 }
 

@@ -4,7 +4,8 @@
 //! have the same rows. An edit is judged by the structure before anything is changed: `put`, `insert` and `cut` do it
 //! whole, or name the first row that could no longer be performed. Each accepted edit is a step of the session's history. `undo`
 //! takes the newest step back, with the same row at the same place, and `redo` makes it again, until another edit comes.
-//! Of its steps a session keeps the last 1,024; it takes the memory for them when it is made.
+//! Of its steps a session keeps the last 1,024; it takes the memory for them when it is made. Each is kept as it was told: `redo`
+//! takes back what `undo` told, and tells with new changes what it does.
 //!
 //! `shift` replaces a row in one step of two list edits: by its operation at another time, or by another operation at its
 //! own place. The new row draws a number. A new row that adds is put in before the old one is cut, and one that takes after
@@ -28,7 +29,7 @@
 //! | `ask_now`, `ask`, `all` | those of the structure |
 //!
 //! - `session`: the type and its calls. `turn`, `shift`, `error`: what they take and answer.
-//! - `edit`, `history`, `failing`: an edit in both lists, what the history keeps of it, the row that fails.
+//! - `edit`, `history`, `failing`: an edit in both lists and what takes it back, the rings of the history, the row that fails.
 //! - `replacement`, `scan`, `walk_count`: a row that is to be replaced, the search and the walk that judge it, what the walk counts.
 //! - `laws`: an undo leads back.
 #![tactic(auto)]
@@ -47,5 +48,5 @@ mod walk_count;
 
 pub use error::{EditError, UndoError};
 pub use session::{MAX_STEPS, Session};
-pub use shift::{Shift, Target};
+pub use shift::Target;
 pub use turn::{Put, Turn, Turns};

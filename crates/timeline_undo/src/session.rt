@@ -12,14 +12,15 @@ ghost use Rattle.retro_base.specs.Timeline.{IsTimeline};
 ghost use Rattle.timeline_undo.specs.History.{newest_step, no_history};
 ghost use Rattle.timeline_undo.specs.Session.{AreMade, CanStand, drawn, edit_reported, HasRoom, IsCause, IsLeftByUndo, IsShiftUnmade, step_reported, with_edit, with_insert, with_redo, with_shift, with_undo};
 ghost use Rattle.timeline_undo.specs.Shift.{IsTargetOf, shift_at};
+ghost use Rattle.timeline_undo.specs.declared.turn.Turn.{Turn};
 ghost use Rattle.timeline_undo.specs.declared.turn.Turns.TheVariants.{Double};
 
-use crate::edit::{Interrupted, make_both, make_step, put_in_both, take_from_both};
+use crate::edit::{Interrupted, put_in_both, take_back, take_from_both};
 use crate::failing::{fails_at, row_after_insert, row_after_remove};
-use crate::history::{HistoryEdit, HistoryStep, forget, newest, note, pass_on};
+use crate::history::{forget, newest, note, pass_on};
 use crate::replacement::Replacement;
 use crate::scan::failing_after;
-use crate::{EditError, Put, Shift, Target, Turn, Turns, UndoError};
+use crate::{EditError, Put, Target, Turn, Turns, UndoError};
 use circular_buffer::HeapCircularBuffer;
 use order_timeline::Timeline;
 use retro_base::{Answer, Change, Kind, Listing, NoMemory, Op, Question, Retro, Row};
@@ -36,13 +37,13 @@ pub struct Session<R: Retro + Drop> {
     timeline: Timeline,
     structure: R,
     next: u32,
-    undo: HeapCircularBuffer<HistoryStep>,
-    redo: HeapCircularBuffer<HistoryStep>,
+    undo: HeapCircularBuffer<Turns>,
+    redo: HeapCircularBuffer<Turns>,
     spent: bool,
 }
 
 impl<R: Retro + Drop> Model for Session<R> {
-    ghost use Rattle.timeline_undo.specs.KeptSteps.{IsSession, steps_of};
+    ghost use Rattle.timeline_undo.specs.KeptSteps.{IsSession, steps_of, undone_steps_of};
     ghost use Rattle.timeline_undo.specs.Session.{SessionState};
 
     ghost Value = { SessionState };
@@ -51,7 +52,7 @@ impl<R: Retro + Drop> Model for Session<R> {
       kind = R.kind s.structure;
       rows = s.timeline;
       next = s.next;
-      history = record { undo = steps_of s.undo.items; redo = steps_of s.redo.items };
+      history = record { undo = steps_of s.undo.items; redo = undone_steps_of s.redo.items };
       spent = s.spent;
     } };
 
@@ -164,8 +165,7 @@ impl<R: Retro + Drop> Session<R> {
             return Err(fails_at(row_after_insert(&self.timeline, place, row, index)));
         }
         let turn = put_in_both(&mut self.timeline, &mut self.structure, place, row)?;
-        let edit = HistoryEdit::Added { place, row };
-        note(&mut self.undo, &mut self.redo, HistoryStep::Single { edit });
+        note(&mut self.undo, &mut self.redo, Turns::Single { turn });
         self.next += 1;
         Ok(turn)
     }
@@ -201,26 +201,22 @@ impl<R: Retro + Drop> Session<R> {
             return Err(fails_at(row_after_remove(&self.timeline, place, index)));
         }
         let turn = take_from_both(&mut self.timeline, &mut self.structure, place)?;
-        let edit = HistoryEdit::Taken {
-            place,
-            row: turn.row,
-        };
-        note(&mut self.undo, &mut self.redo, HistoryStep::Single { edit });
+        note(&mut self.undo, &mut self.redo, Turns::Single { turn });
         Ok(turn)
     }
 
     /// Replaces the row at a place in one step, by a row that draws the next number. Whether the rows after both list edits replay
     /// is found before anything is edited, which takes no memory: by one search of the structure, where that shows that they do, and
     /// else by a walk over the rows. After `Fails` all is as before; after `NoMemory` it is so too, or the session is spent.
-    pub fn shift(&mut self, place: u32, target: Target) -> Result<Shift, EditError>
+    pub fn shift(&mut self, place: u32, target: Target) -> Result<Turns, EditError>
         requires unspent { self.old.spent ≡ false }
         requires within { place < length self.old.rows }
         requires room { HasRoom self.old.rows self.old.next }
         requires of_kind { IsTargetOf self.old.kind target }
-        ensures step { IfOk result (λ shift. shift_at self.old.rows target self.old.next place ≡ Some (step_reported (Double shift.first shift.second))) }
-        ensures session { IfOk result (λ shift. self.new ≡ with_shift self.old (step_reported (Double shift.first shift.second))) }
-        ensures number { IfOk result (λ shift. shift.number ≡ self.old.next) }
-        ensures made { IfOk result (λ shift. AreMade self.old.kind self.old.rows (Double shift.first shift.second)) }
+        ensures double { IfOk result (λ turns. (first : Turn) × (second : Turn) × (turns ≡ Double first second)) }
+        ensures step { IfOk result (λ turns. shift_at self.old.rows target self.old.next place ≡ Some (step_reported turns)) }
+        ensures session { IfOk result (λ turns. self.new ≡ with_shift self.old (step_reported turns)) }
+        ensures made { IfOk result (AreMade self.old.kind self.old.rows) }
         ensures err { IfErr result (IsShiftUnmade self.old place target self.new) }
     {
         let old = self.timeline.row_at(place);
@@ -228,20 +224,11 @@ impl<R: Retro + Drop> Session<R> {
         if let Some(failing) = failing_after(&self.timeline, &self.structure, replacement) {
             return Err(fails_at(failing));
         }
-        let (first, second) = replacement.edits();
-        match make_both(&mut self.timeline, &mut self.structure, first, second) {
-            Ok((first_turn, second_turn)) => {
-                note(
-                    &mut self.undo,
-                    &mut self.redo,
-                    HistoryStep::Double { first, second },
-                );
+        match replacement.make(&mut self.timeline, &mut self.structure) {
+            Ok(turns) => {
+                note(&mut self.undo, &mut self.redo, turns);
                 self.next += 1;
-                Ok(Shift {
-                    number: replacement.new.number,
-                    first: first_turn,
-                    second: second_turn,
-                })
+                Ok(turns)
             }
             Err(Interrupted::AtOnce) => Err(EditError::NoMemory),
             Err(Interrupted::Midway) => {
@@ -265,9 +252,9 @@ impl<R: Retro + Drop> Session<R> {
         let Some(step) = newest(&self.undo) else {
             return Err(UndoError::Nothing);
         };
-        match make_step(&mut self.timeline, &mut self.structure, step.inverse()) {
+        match take_back(&mut self.timeline, &mut self.structure, step) {
             Ok(turns) => {
-                pass_on(&mut self.undo, &mut self.redo, step);
+                pass_on(&mut self.undo, &mut self.redo, turns);
                 Ok(turns)
             }
             Err(Interrupted::AtOnce) => Err(UndoError::NoMemory),
@@ -291,9 +278,9 @@ impl<R: Retro + Drop> Session<R> {
         let Some(step) = newest(&self.redo) else {
             return Err(UndoError::Nothing);
         };
-        match make_step(&mut self.timeline, &mut self.structure, step) {
+        match take_back(&mut self.timeline, &mut self.structure, step) {
             Ok(turns) => {
-                pass_on(&mut self.redo, &mut self.undo, step);
+                pass_on(&mut self.redo, &mut self.undo, turns);
                 Ok(turns)
             }
             Err(Interrupted::AtOnce) => Err(UndoError::NoMemory),

@@ -1,6 +1,5 @@
-//! What a row is replaced by, and what that tells.
+//! What a row is replaced by.
 
-use crate::Turn;
 use retro_base::Op;
 
 /// What a row is replaced by in one step.
@@ -10,15 +9,4 @@ pub enum Target {
     At { time: u64 },
     /// Another operation at its own time and place.
     Into { op: Op },
-}
-
-/// What an accepted shift tells.
-#[derive(Clone, Copy, PartialEq, Eq)]
-pub struct Shift {
-    /// The number that the new row has drawn.
-    pub number: u32,
-    /// The list edit that was made first.
-    pub first: Turn,
-    /// The list edit that was made then.
-    pub second: Turn,
 }

@@ -24,11 +24,11 @@ pub struct Turn {
     pub change: Change,
 }
 
-/// The list edits that an undo or a redo has made, in order.
+/// What an accepted step tells: the list edits that it has made, in order.
 #[derive(Clone, Copy, PartialEq, Eq)]
 pub enum Turns {
-    /// Of an insert or a delete.
+    /// That of an insert or a delete.
     Single { turn: Turn },
-    /// Of a shift.
+    /// Those of a shift.
     Double { first: Turn, second: Turn },
 }

@@ -1,4 +1,5 @@
-use Rattle.std.proofs.Common.{◌+◌, refl, ◌∙◌}
+use Rattle.std.proofs.Common.{◌+◌, [], ◌∷◌, ap, refl, ◌∙◌}
+use Rattle.retro_base.specs.Edits.{add}
 use Rattle.timeline_undo.proofs.InTurn.{in_turn_later, timeline_later}
 use Rattle.timeline_undo.proofs.Rings.{steps-recorded}
 use Rattle.timeline_undo.proofs.Sessions.{insert_leads, session_noted}
@@ -21,7 +22,9 @@ invariant_of-self-2 g c =
     let room = rw (← c.self.view_is) at c.requires.room in
     let stands = rw (← c.self.view_is) at c.requires.stands in
     rw (c.in_ok-turn.ensures.kind, c.in_ok-turn.ensures.rows, c.note.ensures.undo, c.note.ensures.redo)
-    (session_noted _ _ c.self.inside.timeline (c.self.inside.next + 1) c.self.inside.undo c.self.inside.redo _ c.self.invariant.undo_room c.self.invariant.redo_room
+    (session_noted _ _ c.self.inside.timeline (c.self.inside.next + 1) c.self.inside.undo c.self.inside.redo _
+    (add c.args.place (record { number = c.self.inside.next; time = c.args.time; op = c.args.op }) ∷ [])
+    c.self.invariant.undo_room c.self.invariant.redo_room (ap (λ edit. edit ∷ []) c.in_ok-turn.ensures.reported)
     (c.in_ok-turn.ensures.same ∙ c.in_ok-turn.ensures.rows)
     (timeline_later _ _ _ room.1 c.self.invariant.timeline) (
       record {
@@ -37,4 +40,4 @@ invariant_of-self-2 g c =
 pub returns-clause-session : goal.returns-clause-session
 returns-clause-session g c =
     rw (← c.self.view_is, c.in_ok-turn.ensures.kind, c.in_ok-turn.ensures.rows, c.note.ensures.undo, c.note.ensures.redo, c.self.invariant.undo_room)
-    (rw (steps-recorded c.self.inside.undo.items _) refl)
+    (rw (steps-recorded c.self.inside.undo.items _, c.in_ok-turn.ensures.reported) refl)
