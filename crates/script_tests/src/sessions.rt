@@ -3,7 +3,7 @@
 use retro_base::{Change, Kind, MAX_NEXT, MAX_ROWS, Op, PlainList, Row};
 use std::alloc::Global;
 use std::process::Abort;
-use timeline_undo::{EditError, Put, Session, Shift, Target, Turn, Turns, UndoError};
+use timeline_undo::{EditError, Put, Session, Target, Turn, Turns, UndoError};
 
 /// A session over a plain list.
 type Plain = Session<PlainList>;
@@ -68,7 +68,7 @@ fn shift_row(
     session: &mut Plain,
     number: u32,
     target: Target,
-) -> Result<Shift, EditError> {
+) -> Result<Turns, EditError> {
     assert!(rt; !session.spent());
     if let Target::Into { op } = target {
         assert!(rt; op.kind() == session.kind());
@@ -160,8 +160,7 @@ fn expect_shifts(rt: &impl Abort, session: &mut Plain) {
         (
             1,
             Target::At { time: 15 },
-            Ok(Shift {
-                number: 3,
+            Ok(Turns::Double {
                 first: turn(true, 1, 3, 15, PUSH),
                 second: turn(false, 0, 1, 10, PUSH),
             }),
@@ -169,8 +168,7 @@ fn expect_shifts(rt: &impl Abort, session: &mut Plain) {
         (
             2,
             Target::At { time: 30 },
-            Ok(Shift {
-                number: 4,
+            Ok(Turns::Double {
                 first: turn(false, 1, 2, 20, Op::Pop),
                 second: turn(true, 1, 4, 30, Op::Pop),
             }),
