@@ -2,6 +2,7 @@
 use Rattle.std.proofs.Common.{◌≡◌, ℕ, zero, suc, ◌+◌, nat_le, ◌<◌, ◌≤◌, true, false, List, [], ◌∷◌, arith, length, slice_get, refl, sym, ◌∙◌, ap, subst, Option, Some, None}
 use Rattle.std.specs.Prelude.{option_map, option_and_then, Result, Ok, Err, IfSome, IfOk}
 use Rattle.std.proofs.Math.Seq.{take-length}
+use Rattle.retro_base.specs.declared.kind.Kind.{Kind}
 use Rattle.retro_base.specs.declared.op.Op.{Op}
 use Rattle.retro_base.specs.declared.question.Question.{Question}
 use Rattle.retro_base.specs.declared.row.Row.{Row}
@@ -11,7 +12,9 @@ use Rattle.timeline_undo.specs.History.{newest_step}
 use Rattle.timeline_undo.specs.Shift.{shift_at, shift_of}
 use Rattle.timeline_undo.specs.declared.shift.Target.{Target}
 use Rattle.timeline_undo.specs.declared.shift.Target.TheVariants.{Into}
-use Rattle.timeline_undo.specs.Session.{SessionState, FailsFirst, IsCause, IsLeftByUndo, IsShiftUnmade, IsUnmade}
+use Rattle.timeline_undo.specs.Session.{SessionState, AreMade, FailsFirst, IsCause, IsLeftByUndo, IsShiftUnmade, IsUnmade, step_reported}
+use Rattle.timeline_undo.specs.declared.turn.Turns.{Turns}
+use Rattle.timeline_undo.specs.declared.turn.Turns.TheVariants.{Single, Double}
 use Rattle.timeline_undo.specs.declared.error.UndoError.{UndoError}
 use Rattle.timeline_undo.specs.declared.error.UndoError.TheVariants as undos
 use Rattle.timeline_undo.specs.declared.error.EditError.{EditError}
@@ -155,6 +158,11 @@ pub shifted_told : {E : Type 0} (result : Result Outcome E) (t after : NamedTime
 shifted_told (Ok outcome) t after target place done room number is valid same told =
     rw (same, told) (shift_accepted t target place done (lt-leb most_rows (length t.rows) room) (lt-leb next_limit t.next number) is valid)
 shifted_told (Err e) t after target place done room number is valid same told = tt
+
+-- after a step that was made the rows replay
+pub made_replays : (kind : Kind) (rows : List Row) (turns : Turns) → AreMade kind rows turns → failure kind (edited_by rows (step_reported turns)) ≡ None
+made_replays kind rows (Single turn) made = made.after.valid
+made_replays kind rows (Double first second) made = made.1.after.valid
 
 pub changes_other_kind : (t : NamedTimeline) (number : ℕ) (op : Op) → same_kind (kind_of op) t.kind ≡ false → changes t number op ≡ refuses t refusals.Kind
 unfolding changes

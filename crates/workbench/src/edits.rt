@@ -7,9 +7,7 @@ ghost use Rattle.retro_base.specs.Edits.{Step};
 ghost use Rattle.retro_base.specs.MadeEdits.{IsMade};
 ghost use Rattle.timeline_undo.specs.Session.{AreMade, HasRoom, edit_reported, step_reported};
 ghost use Rattle.timeline_undo.specs.Shift.{IsTargetOf, shift_at};
-ghost use Rattle.timeline_undo.specs.declared.turn.Turns.TheVariants.{Double};
 ghost use Rattle.workbench.specs.Reported.{reported};
-ghost use Rattle.workbench.specs.declared.outcome.Outcome.TheVariants.{Accepted};
 ghost use Rattle.workbench.specs.EditErrors.{IsRefusedBy};
 
 use crate::named_timeline::{NamedTimeline, no_row};
@@ -138,11 +136,9 @@ impl NamedTimeline {
         if let Some(refusal) = self.refusal_of_one_more() {
             return Ok(Outcome::refused(refusal));
         }
+        let number = self.session.next();
         match self.session.shift(place, target) {
-            Ok(shift) => {
-                let number = shift.number;
-                self.tell_both(shift.first, shift.second, Outcome::Inserted { number })
-            }
+            Ok(turns) => self.tell_all(turns, Outcome::Inserted { number }),
             Err(error) => refused_by(error),
         }
     }
@@ -155,7 +151,7 @@ impl NamedTimeline {
         ensures memory { OnErr result (is_refusal (undoes self.old.timeline).outcome ≡ false) }
     {
         match self.session.undo() {
-            Ok(turns) => self.tell_all(turns),
+            Ok(turns) => self.tell_all(turns, Outcome::Accepted),
             Err(UndoError::Nothing) => Ok(Outcome::refused(Refusal::NothingToUndo)),
             Err(UndoError::NoMemory) => Err(NoMemory),
         }
@@ -169,7 +165,7 @@ impl NamedTimeline {
         ensures memory { OnErr result (is_refusal (redoes self.old.timeline).outcome ≡ false) }
     {
         match self.session.redo() {
-            Ok(turns) => self.tell_all(turns),
+            Ok(turns) => self.tell_all(turns, Outcome::Accepted),
             Err(UndoError::Nothing) => Ok(Outcome::refused(Refusal::NothingToRedo)),
             Err(UndoError::NoMemory) => Err(NoMemory),
         }
@@ -184,31 +180,22 @@ impl NamedTimeline {
         reported(self.alloc, self.name, self.session.kind(), turn, plain)
     }
 
-    /// The outcome of two list edits that were accepted as one step.
-    fn tell_both(&self, first: Turn, second: Turn, plain: Outcome) -> Result<Outcome, NoMemory>
-        requires unspent { IsUnspent self.now }
-        ensures { (rows : List Row) → AreMade self.now.timeline.kind rows (Double first second)
-            → IfOk result (λ outcome. outcome ≡ reported self.now.timeline.name self.now.timeline.kind rows (step_reported (Double first second)) plain) }
-    {
-        reported_both(
-            self.alloc,
-            self.name,
-            self.session.kind(),
-            first,
-            second,
-            plain,
-        )
-    }
-
-    /// The outcome of the list edits of an undo or a redo.
-    fn tell_all(&self, turns: Turns) -> Result<Outcome, NoMemory>
+    /// The outcome of the list edits of an accepted step.
+    fn tell_all(&self, turns: Turns, plain: Outcome) -> Result<Outcome, NoMemory>
         requires unspent { IsUnspent self.now }
         ensures { (rows : List Row) → AreMade self.now.timeline.kind rows turns
-            → IfOk result (λ outcome. outcome ≡ reported self.now.timeline.name self.now.timeline.kind rows (step_reported turns) Accepted) }
+            → IfOk result (λ outcome. outcome ≡ reported self.now.timeline.name self.now.timeline.kind rows (step_reported turns) plain) }
     {
         match turns {
-            Turns::Single { turn } => Ok(self.tell(turn, Outcome::Accepted)),
-            Turns::Double { first, second } => self.tell_both(first, second, Outcome::Accepted),
+            Turns::Single { turn } => Ok(self.tell(turn, plain)),
+            Turns::Double { first, second } => reported_both(
+                self.alloc,
+                self.name,
+                self.session.kind(),
+                first,
+                second,
+                plain,
+            ),
         }
     }
 }

@@ -2,7 +2,7 @@ use Rattle.std.proofs.Common.{◌<◌, ap, length}
 use Rattle.retro_base.specs.Limits.{most_rows, next_limit}
 use Rattle.workbench.specs.Bench.{named}
 use Rattle.workbench.proofs.Memory.{shift_memory, shifted_memory}
-use Rattle.workbench.proofs.TimelineEffects.{shift_refused, shifted_told}
+use Rattle.workbench.proofs.TimelineEffects.{made_replays, shift_refused, shifted_told}
 use Rattle.workbench.proofs.named_timeline.NamedTimeline.shift_at.Goals as goal
 
 pub returns-in-Ok-clause-ok : goal.returns-in-Ok-clause-ok
@@ -12,9 +12,9 @@ returns-in-Ok-clause-ok c =
     let room : length c.self.inside.session.rows < most_rows = fits.0.0 in
     let number : c.self.inside.session.next < next_limit = fits.0.1 in
     rw (← c.self.view_is)
-    (shifted_told c.tell_both.result (named c.self.inside.name c.self.inside.session) _ c.args.target c.args.place _ room number done.step done.made.1.after.valid
+    (shifted_told c.tell_all.result (named c.self.inside.name c.self.inside.session) _ c.args.target c.args.place _ room number done.step (made_replays _ _ _ done.made)
     (ap (named c.self.inside.name) done.session)
-    (rw (done.session, done.number) at (c.tell_both.ensures c.self.inside.session.rows (rw done.session done.made))))
+    (rw (done.session, c.next-number.ensures.next) at (c.tell_all.ensures c.self.inside.session.rows (rw done.session done.made))))
 
 pub returns-in-Err-clause-ok : goal.returns-in-Err-clause-ok
 returns-in-Err-clause-ok c =
@@ -32,7 +32,7 @@ returns-in-Ok-clause-memory c =
     let room : length c.self.inside.session.rows < most_rows = fits.0.0 in
     let number : c.self.inside.session.next < next_limit = fits.0.1 in
     rw (← c.self.view_is)
-    (shifted_memory c.tell_both.result (named c.self.inside.name c.self.inside.session) c.args.target c.args.place _ room number done.step done.made.1.after.valid)
+    (shifted_memory c.tell_all.result (named c.self.inside.name c.self.inside.session) c.args.target c.args.place _ room number done.step (made_replays _ _ _ done.made))
 
 pub returns-in-Err-clause-memory : goal.returns-in-Err-clause-memory
 returns-in-Err-clause-memory c =
