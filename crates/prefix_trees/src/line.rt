@@ -1,10 +1,10 @@
 //! A queue, a stack or a deque whose past can be edited.
 
 ghost use Rattle.std.specs.Prelude.{◌≡◌, ◌<◌, ◌≤◌, [], length, slice_get, true, Some, IsOk, IfOk, OnOk, OnErr};
-ghost use Rattle.std.specs.List.{remove};
+ghost use Rattle.std.specs.List.{insert, remove};
 ghost use Rattle.retro_base.specs.Answers.{answer_of};
 ghost use Rattle.retro_base.specs.Changes.{IsChange};
-ghost use Rattle.retro_base.specs.Edits.{cut};
+ghost use Rattle.retro_base.specs.Edits.{add, cut};
 ghost use Rattle.retro_base.specs.Replay.{IsValid, state_at};
 ghost use Rattle.retro_base.specs.Timeline.{IsReplayable};
 ghost use Rattle.retro_base.specs.Questions.{suits};
@@ -62,6 +62,39 @@ impl<S: Sequence> RetroLine<S> {
         ensures visits { VisitsWithin 36 (length self.now) steps.old steps.new }
     {
         ask_sequence::<S, L>(&self.rows, place, question, steps)
+    }
+
+    /// `insert` of `Partial` with a counter of its own.
+    fn insert_uncounted<L: Ledger>(
+        &mut self,
+        place: u32,
+        row: Row,
+        blank: Blank,
+    ) -> Result<Change, NoMemory>
+        requires within { place ≤ length self.old }
+        requires replayable { IsReplayable S.kind (insert self.old place row) }
+        requires counter { OpensCounter blank.name L.name blank.parts L.parts }
+        ensures rows { OnOk result (self.new ≡ insert self.old place row) }
+        ensures replayable { OnOk result (IsReplayable S.kind self.new) }
+        ensures change { IfOk result (IsChange S.kind self.old (add place row)) }
+        ensures err { OnErr result (self.new ≡ self.old) }
+    {
+        let mut steps = Steps::<L>::new(blank);
+        Partial::insert(self, place, row, &mut steps)
+    }
+
+    /// `remove` of `Partial` with a counter of its own.
+    fn remove_uncounted<L: Ledger>(&mut self, place: u32, blank: Blank) -> (Row, Change)
+        requires within { place < length self.old }
+        requires replays { IsValid S.kind (remove self.old place) }
+        requires counter { OpensCounter blank.name L.name blank.parts L.parts }
+        ensures row { slice_get self.old place ≡ Some result.0 }
+        ensures rows { self.new ≡ remove self.old place }
+        ensures replayable { IsReplayable S.kind self.new }
+        ensures change { IsChange S.kind self.old (cut place result.0) result.1 }
+    {
+        let mut steps = Steps::<L>::new(blank);
+        Partial::remove(self, place, &mut steps)
     }
 
     /// The same structure once more, with a counter of its own.
@@ -179,7 +212,7 @@ impl<S: Sequence> Retro for RetroLine<S> {
     }
 
     fn insert(&mut self, place: u32, row: Row) -> Result<Change, NoMemory> {
-        uncounted::insert(self, place, row)
+        self.insert_uncounted::<Brand>(place, row, Blank::new(1))
     }
 
     /// It takes no memory, so it never answers `NoMemory`.
@@ -193,7 +226,7 @@ impl<S: Sequence> Retro for RetroLine<S> {
         ensures change { IfOk result (λ taken. IsChange S.kind self.old (cut place taken.0) taken.1) }
         ensures err { OnErr result (self.new ≡ self.old) }
     {
-        Ok(uncounted::remove(self, place))
+        Ok(self.remove_uncounted::<Brand>(place, Blank::new(1)))
     }
 
     fn ask_now(&self, question: Question) -> Answer {
