@@ -18,7 +18,9 @@ ghost use Rattle.engine.specs.Engine.{kind_inside, rows_inside, is_line, is_pq, 
 use bridge_pq::BridgeQueue;
 use checkpoint_full::Full;
 use pq_fusion::FusedQueue;
-use retro_base::{Answer, Change, Kind, Listing, NoMemory, Op, Question, Retro, Row, Steps};
+use retro_base::{
+    Answer, AnyStructure, Change, Kind, Listing, NoMemory, Op, Question, Retro, Row, Steps,
+};
 use retro_deque::RetroDeque;
 use retro_dictionary::RetroDictionary;
 use retro_queue::RetroQueue;
@@ -124,6 +126,18 @@ impl Engine {
     {
         let mut steps = Steps::<L>::new(blank);
         self.ask_past(place, question, &mut steps)
+    }
+}
+
+impl AnyStructure for Engine {
+    ghost is_fused = { is_fused };
+
+    fn empty(alloc: Global, kind: Kind, fused: bool) -> Engine {
+        if fused {
+            Engine::fused(alloc)
+        } else {
+            Engine::new(alloc, kind)
+        }
     }
 }
 

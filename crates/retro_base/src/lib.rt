@@ -12,7 +12,7 @@
 //! - Rows: `Kind`, `Op`, `Row`, `PackedRow`, `Rows`, `Entry`, `Change`.
 //! - Questions: `Question`, `Answer`, `Item`, `Listing`.
 //! - Structures: `Retro`; `Partial`, which answers of the present alone, and of that of a later structure whose first
-//!   rows it has, and takes no memory to remove; `PlainList`, `PerformedRows`.
+//!   rows it has, and takes no memory to remove; `AnyStructure`, one type over those of all kinds; `PlainList`, `PerformedRows`.
 //! - The questions of `Partial` with a counter of their own: `uncounted`.
 //! - Texts: `Name`, `Text`, `print_op`. Costs: `Steps`. Memory: `NoMemory`.
 //! - Laws on the bridges of a priority queue, and on edits that give: the functions of the module `laws`, which have no body.
@@ -20,11 +20,13 @@
 //! - `kind`, `op`, `op_text`, `row`, `packed_row`, `rows`, `name`, `limits`: what a history is told in.
 //! - `question`, `listing`: what is asked, and answered.
 //! - `retro`, `partial`, `uncounted`: the two traits of structures, and the questions of the second with a counter of their own.
+//!   `any_structure`: how one is made of whatever kind a timeline has.
 //! - `plain_list`, `performed_rows`: the plain structure and performed rows, over `content` with its `line`, `pairs` and
 //!   `entries`; `counting`, `bridge_search`: the row that fails first, and what an edit of a priority queue changes.
 //! - `text`, `steps`, `memory`: what is written, what is counted, and the error of no memory. `laws`.
 #![tactic(auto)]
 
+mod any_structure;
 mod bridge_search;
 mod content;
 mod counting;
@@ -51,6 +53,7 @@ mod steps;
 mod text;
 pub mod uncounted;
 
+pub use any_structure::AnyStructure;
 pub use kind::Kind;
 pub use limits::{MAX_NEXT, MAX_ROWS, limits_are_those_stated};
 pub use listing::Listing;

@@ -9,7 +9,7 @@ use Rattle.workbench.specs.Reaction.{of_block}
 use Rattle.workbench.specs.Reported.{loaded_evidence}
 
 -- the timeline of the rows that the block comes to, or what is wrong with it
-abbrev pub ComesToTimeline : OpenBlock → Bool → Result LoadedTimeline BlockError → Type 0
+abbrev pub ComesToTimeline : {S : Type 0} → OpenBlock → Bool → Result (LoadedTimeline S) BlockError → Type 0
 ComesToTimeline unclosed ended (Ok loaded) =
     (rows : List Row) × (finished unclosed.block ended ≡ Ok rows) × (loaded.timeline ≡ unspent (of_block unclosed rows))
     × (loaded.evidence ≡ loaded_evidence unclosed.name unclosed.block.kind rows)

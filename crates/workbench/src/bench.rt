@@ -9,8 +9,7 @@ ghost use Rattle.workbench.specs.Reaction.{closing, ends, opened, reaction_of, r
 
 use crate::open_block::OpenBlock;
 use crate::timelines::Timelines;
-use engine::Engine;
-use retro_base::{Answer, Name, NoMemory, Question, Text};
+use retro_base::{Answer, AnyStructure, Name, NoMemory, Question, Text};
 use script_grammar::{Command, LineError, is_end, read_line};
 use std::alloc::Global;
 use std::marker::Model;
@@ -28,14 +27,14 @@ pub struct Reply {
 /// The timelines that a script has made, and the block that is being read. A bench that met out of memory is
 /// spent, and takes no more lines.
 #[derive(Drop)]
-pub struct Bench {
+pub struct Bench<R: AnyStructure> {
     alloc: Global,
-    timelines: Timelines,
+    timelines: Timelines<R>,
     block: Option<OpenBlock>,
     spent: bool,
 }
 
-impl Model for Bench {
+impl<R: AnyStructure> Model for Bench<R> {
     ghost use Rattle.workbench.specs.Bench.{BenchState};
 
     ghost Value = { BenchState };
@@ -43,9 +42,9 @@ impl Model for Bench {
     ghost view = { λ b. record { bench = record { timelines = b.timelines; block = b.block }; spent = b.spent } };
 }
 
-impl Bench {
+impl<R: AnyStructure> Bench<R> {
     /// A bench without a timeline.
-    pub fn new(alloc: Global) -> Bench
+    pub fn new(alloc: Global) -> Bench<R>
         ensures { result ≡ record { bench = empty_bench; spent = false } }
     {
         Bench {
@@ -151,7 +150,7 @@ impl Bench {
     }
 
     /// The session of the timeline of this name; none where no timeline has it.
-    pub fn session(&self, name: &Name) -> Option<&Session<Engine>>
+    pub fn session(&self, name: &Name) -> Option<&Session<R>>
         requires { self.now.spent ≡ false }
         ensures { MatchOption result (timeline_of name.now self.now.bench.timelines ≡ None)
             (λ session. (timeline_of name.now self.now.bench.timelines ≡ Some (named name.now session.now)) × (session.now.spent ≡ false)) }
@@ -235,7 +234,7 @@ impl Bench {
 }
 
 /// How many items, pairs or entries a session holds at present.
-fn size_of(session: &Session<Engine>) -> u32
+fn size_of<R: AnyStructure>(session: &Session<R>) -> u32
     requires { session.now.spent ≡ false }
     ensures { result ≡ size_of (present session.now.kind session.now.rows) }
 {

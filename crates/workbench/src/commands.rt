@@ -3,11 +3,11 @@
 ghost use Rattle.std.specs.Prelude.{IfOk, OnOk};
 
 use crate::named_timeline::NamedTimeline;
-use retro_base::{NoMemory, Text};
+use retro_base::{AnyStructure, NoMemory, Text};
 use script_grammar::Command;
 use timeline_undo::Target;
 
-impl NamedTimeline {
+impl<R: AnyStructure> NamedTimeline<R> {
     ghost use Rattle.workbench.specs.AnsweredLine.{IsTold, performs, performs_other};
     ghost use Rattle.workbench.specs.Bench.{IsUnspent};
 

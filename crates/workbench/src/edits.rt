@@ -14,11 +14,11 @@ use crate::named_timeline::{NamedTimeline, no_row};
 use crate::outcome::{Outcome, Refusal};
 use crate::position::{position_of, row_named};
 use crate::reported::{reported, reported_both};
-use retro_base::{MAX_NEXT, MAX_ROWS, NoMemory, Op};
+use retro_base::{AnyStructure, MAX_NEXT, MAX_ROWS, NoMemory, Op};
 use script_grammar::Spot;
 use timeline_undo::{EditError, Target, Turn, Turns, UndoError};
 
-impl NamedTimeline {
+impl<R: AnyStructure> NamedTimeline<R> {
     ghost use Rattle.workbench.specs.Bench.{IsUnspent};
     ghost use Rattle.workbench.specs.Outcome.{is_refusal};
     ghost use Rattle.workbench.specs.TimelineEffects.{TimelineEffect, changes, deletes, inserts, refuses, shifts, shifts_there, undoes, redoes, where_one_fits};

@@ -8,19 +8,18 @@ ghost use Rattle.retro_base.specs.Timeline.{IsTimeline};
 use crate::evidence_lines::EvidenceLines;
 use crate::named_timeline::NamedTimeline;
 use crate::reported::note;
-use engine::Engine;
-use retro_base::{Kind, Name, NoMemory, Retro, Rows};
+use retro_base::{AnyStructure, Kind, Name, NoMemory, Retro, Rows};
 use std::alloc::Global;
 use timeline_undo::Session;
 
 /// A timeline that a block has made, and the evidence of its rows.
 #[derive(Drop)]
-pub(crate) struct LoadedTimeline {
-    pub(crate) timeline: NamedTimeline,
+pub(crate) struct LoadedTimeline<R: AnyStructure> {
+    pub(crate) timeline: NamedTimeline<R>,
     pub(crate) evidence: EvidenceLines,
 }
 
-impl NamedTimeline {
+impl<R: AnyStructure> NamedTimeline<R> {
     ghost use Rattle.workbench.specs.Bench.{unspent, with_rows};
 
     /// The timeline of a block that came to these rows.
@@ -30,14 +29,14 @@ impl NamedTimeline {
         kind: Kind,
         next: u32,
         rows: &Rows,
-    ) -> Result<LoadedTimeline, NoMemory>
+    ) -> Result<LoadedTimeline<R>, NoMemory>
         requires { IsTimeline kind rows.now next }
         ensures timeline { IfOk result (λ loaded. loaded.timeline ≡ unspent (with_rows name kind next rows.now)) }
         ensures evidence { IfOk result (λ loaded. loaded.evidence ≡ loaded_evidence name kind rows.now) }
     {
         let mut evidence = EvidenceLines::new(alloc);
-        let engine = Engine::new(alloc, kind);
-        let session = session_of(alloc, name, engine, next, rows, &mut evidence)?;
+        let structure = R::empty(alloc, kind, false);
+        let session = session_of(alloc, name, structure, next, rows, &mut evidence)?;
         let timeline = NamedTimeline {
             alloc,
             name,

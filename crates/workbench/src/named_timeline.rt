@@ -1,40 +1,24 @@
 //! A timeline with its name, and the session that keeps its rows.
 
-ghost use Rattle.std.specs.Prelude.{◌≡◌, true, [], IfOk};
-ghost use Rattle.engine.specs.Engine.{is_fused, kind_inside, rows_inside};
+ghost use Rattle.std.specs.Prelude.{◌≡◌, true, IfOk};
 ghost use Rattle.workbench.specs.declared.outcome.Outcome.TheVariants.{Refused};
 ghost use Rattle.workbench.specs.declared.outcome.Refusal.TheVariants.{NoRow};
 
 use crate::outcome::{Outcome, Refusal};
-use engine::Engine;
-use retro_base::{Kind, Name, NoMemory};
+use retro_base::{AnyStructure, Kind, Name, NoMemory};
 use std::alloc::Global;
 use std::marker::Model;
 use timeline_undo::Session;
 
-/// The empty structure of a kind, or of a fused priority queue.
-fn structure_of(alloc: Global, kind: Kind, fused: bool) -> Engine
-    requires { fused ≡ true → kind ≡ Kind.Pq }
-    ensures kind { kind_inside result ≡ kind }
-    ensures rows { rows_inside result ≡ [] }
-    ensures variant { is_fused result ≡ fused }
-{
-    if fused {
-        Engine::fused(alloc)
-    } else {
-        Engine::new(alloc, kind)
-    }
-}
-
 /// A timeline of the bench: its name, and the session that keeps and performs its rows.
 #[derive(Drop)]
-pub(crate) struct NamedTimeline {
+pub(crate) struct NamedTimeline<R: AnyStructure> {
     pub(crate) alloc: Global,
     pub(crate) name: Name,
-    pub(crate) session: Session<Engine>,
+    pub(crate) session: Session<R>,
 }
 
-impl Model for NamedTimeline {
+impl<R: AnyStructure> Model for NamedTimeline<R> {
     ghost use Rattle.workbench.specs.Bench.{KeptTimeline, kept_over};
 
     ghost Value = { KeptTimeline };
@@ -42,7 +26,7 @@ impl Model for NamedTimeline {
     ghost view = { λ t. kept_over t.name t.session };
 }
 
-impl NamedTimeline {
+impl<R: AnyStructure> NamedTimeline<R> {
     ghost use Rattle.workbench.specs.Bench.{fresh, is_kept_as, kept_over, unspent};
 
     /// A timeline without rows. A fused one is a priority queue that is held as a product of pieces.
@@ -51,11 +35,11 @@ impl NamedTimeline {
         name: Name,
         kind: Kind,
         fused: bool,
-    ) -> Result<NamedTimeline, NoMemory>
+    ) -> Result<NamedTimeline<R>, NoMemory>
         requires { fused ≡ true → kind ≡ Kind.Pq }
         ensures { IfOk result (λ timeline. timeline ≡ unspent (fresh name kind)) }
     {
-        let session = Session::new(alloc, structure_of(alloc, kind, fused), 1)?;
+        let session = Session::new(alloc, R::empty(alloc, kind, fused), 1)?;
         Ok(NamedTimeline {
             alloc,
             name,
@@ -71,7 +55,7 @@ impl NamedTimeline {
     }
 
     /// The session that keeps and performs the rows.
-    pub(crate) fn session(&self) -> &Session<Engine>
+    pub(crate) fn session(&self) -> &Session<R>
         ensures { self.now ≡ kept_over self.now.timeline.name result.now }
     {
         &self.session

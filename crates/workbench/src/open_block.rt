@@ -8,7 +8,7 @@ ghost use Rattle.workbench.specs.OpenBlocks.{ComesToTimeline};
 
 use crate::loading::LoadedTimeline;
 use crate::named_timeline::NamedTimeline;
-use retro_base::{Kind, Name, NoMemory};
+use retro_base::{AnyStructure, Kind, Name, NoMemory};
 use std::alloc::Global;
 use std::marker::Model;
 use timeline_file::{BlockError, BlockReader};
@@ -69,11 +69,11 @@ impl OpenBlock {
     }
 
     /// The timeline that the block makes, or why it makes none: `ended` says that its `end` line came.
-    pub(crate) fn into_timeline(
+    pub(crate) fn into_timeline<R: AnyStructure>(
         self,
         alloc: Global,
         ended: bool,
-    ) -> Result<Result<LoadedTimeline, BlockError>, NoMemory>
+    ) -> Result<Result<LoadedTimeline<R>, BlockError>, NoMemory>
         ensures ok { IfOk result (ComesToTimeline self ended) }
         ensures memory { OnErr result (is_ok (finished self.block ended) ≡ true) }
     {

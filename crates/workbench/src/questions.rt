@@ -13,11 +13,11 @@ use crate::outcome::{Outcome, Refusal, tell_answer, tell_refusal};
 use crate::position::{position_of, row_named};
 use fates::{Fate, fate_of};
 use order_timeline::Timeline;
-use retro_base::{Answer, NoMemory, Question, Row, Rows, Text};
+use retro_base::{Answer, AnyStructure, NoMemory, Question, Row, Rows, Text};
 use script_grammar::{Moment, Query, Spot};
 use std::alloc::Global;
 
-impl NamedTimeline {
+impl<R: AnyStructure> NamedTimeline<R> {
     ghost use Rattle.workbench.specs.Bench.{IsUnspent};
     ghost use Rattle.workbench.specs.Outcome.{is_refusal, reply_text};
     ghost use Rattle.workbench.specs.TimelineEffects.{answers, answers_fate, saves};

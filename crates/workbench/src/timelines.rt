@@ -13,8 +13,7 @@ ghost use Rattle.workbench.specs.AnsweredLine.{told};
 use crate::named_timeline::NamedTimeline;
 use crate::open_block::OpenBlock;
 use crate::outcome::{Outcome, Refusal, tell_refusal};
-use engine::Engine;
-use retro_base::{Kind, Name, NoMemory, Text};
+use retro_base::{AnyStructure, Kind, Name, NoMemory, Text};
 use script_grammar::{Command, LineError};
 use std::alloc::Global;
 use std::marker::Model;
@@ -25,12 +24,12 @@ pub const MAX_TIMELINES: usize = 8;
 
 /// The timelines that a script has made, in the order in which it made them.
 #[derive(Drop)]
-pub(crate) struct Timelines {
+pub(crate) struct Timelines<R: AnyStructure> {
     alloc: Global,
-    timelines: Vec<NamedTimeline>,
+    timelines: Vec<NamedTimeline<R>>,
 }
 
-impl Model for Timelines {
+impl<R: AnyStructure> Model for Timelines<R> {
     ghost use Rattle.std.specs.Prelude.{List};
     ghost use Rattle.std.specs.List.{AllByRecursion};
     ghost use Rattle.workbench.specs.Bench.{IsUnspent, NamedTimeline, shown};
@@ -42,9 +41,9 @@ impl Model for Timelines {
     ghost invariant = { λ t. AllByRecursion IsUnspent t.timelines.items };
 }
 
-impl Timelines {
+impl<R: AnyStructure> Timelines<R> {
     /// No timelines.
-    pub(crate) fn new(alloc: Global) -> Timelines
+    pub(crate) fn new(alloc: Global) -> Timelines<R>
         ensures { result ≡ [] }
     {
         Timelines {
@@ -162,7 +161,7 @@ impl Timelines {
     }
 
     /// The session of the timeline of this name.
-    pub(crate) fn session(&self, name: &Name) -> Option<&Session<Engine>>
+    pub(crate) fn session(&self, name: &Name) -> Option<&Session<R>>
         ensures { MatchOption result (timeline_of name.now self.now ≡ None)
             (λ session. (timeline_of name.now self.now ≡ Some (named name.now session.now)) × (session.now.spent ≡ false)) }
     {
@@ -195,14 +194,14 @@ impl Timelines {
 }
 
 /// Whether one of the timelines has the name.
-fn has_name(timelines: &[NamedTimeline], name: &Name) -> bool
+fn has_name<R: AnyStructure>(timelines: &[NamedTimeline<R>], name: &Name) -> bool
     ensures { result ≡ list_any (is_kept_as name.now) timelines.now }
 {
     timelines.iter().any(|timeline| timeline.is_named(name))
 }
 
 /// The index of the first one that has it.
-fn index_named(timelines: &[NamedTimeline], name: &Name) -> Option<usize>
+fn index_named<R: AnyStructure>(timelines: &[NamedTimeline<R>], name: &Name) -> Option<usize>
     ensures { result ≡ position (is_kept_as name.now) timelines.now }
 {
     timelines
@@ -211,7 +210,7 @@ fn index_named(timelines: &[NamedTimeline], name: &Name) -> Option<usize>
 }
 
 /// Lets a timeline go whose session met out of memory within a step: the bench is spent then, and nobody asks for it again.
-fn let_go_if_spent(timelines: &mut Vec<NamedTimeline>, index: usize)
+fn let_go_if_spent<R: AnyStructure>(timelines: &mut Vec<NamedTimeline<R>>, index: usize)
     requires there { index < length timelines.old.items }
     requires others { AllByRecursion IsUnspent (remove timelines.old.items index) }
     ensures unspent { AllByRecursion IsUnspent timelines.new.items }

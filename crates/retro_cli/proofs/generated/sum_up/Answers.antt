@@ -7,11 +7,11 @@ use Rattle.retro_cli.proofs.Summing.{length-generated, refusals-le}
 use Rattle.retro_cli.proofs.generated.sum_up.Goals as goal
 
 pub count_refusals-requires-clause-few : goal.count_refusals-requires-clause-few
-count_refusals-requires-clause-few c =
+count_refusals-requires-clause-few g c =
     rw c.new-generator.ensures (omega (arith, length-generated c.args.kind c.args.lines c.args.start, c.requires))
 
 pub returns : goal.returns
-returns c =
+returns g c =
     let script = generated c.args.kind c.args.lines c.args.start in
     let size = length-generated c.args.kind c.args.lines c.args.start in
     let refused : c.in_ok-refused.refused ≡ refusals empty_bench script = rw (c.new-bench.ensures, c.new-generator.ensures) at c.in_ok-refused.ensures.refused in

@@ -8,7 +8,7 @@ use Rattle.workbench.proofs.Sizes.{counted, is_number, size-le}
 use Rattle.workbench.proofs.bench.size_of.Goals as goal
 
 pub overflow_cast-result : goal.overflow_cast-result
-overflow_cast-result c =
+overflow_cast-result g c =
     let value = counted c.args.session.now.kind c.args.session.now.rows c.ask_now.result c.in-Number.value c.ask_now.ensures c.in-Number.is in
     let few = size-le c.args.session.now.kind c.args.session.now.rows in
     let small : size_of (present c.args.session.now.kind c.args.session.now.rows) ≤ most_rows =
@@ -16,11 +16,11 @@ overflow_cast-result c =
     rw value (search (rules, to_z-of_z, small))
 
 pub returns-in-Number : goal.returns-in-Number
-returns-in-Number c =
+returns-in-Number g c =
     let value = counted c.args.session.now.kind c.args.session.now.rows c.ask_now.result c.in-Number.value c.ask_now.ensures c.in-Number.is in
     let few = size-le c.args.session.now.kind c.args.session.now.rows in
     rw value (search (rules, to_z-of_z, few))
 
 pub returns-in_default : goal.returns-in_default
-returns-in_default c =
+returns-in_default g c =
     absurd (c.in_default.not-Number _ (is_number c.args.session.now.kind c.args.session.now.rows c.ask_now.result c.ask_now.ensures))

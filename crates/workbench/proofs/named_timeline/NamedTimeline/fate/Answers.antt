@@ -5,12 +5,12 @@ use Rattle.workbench.proofs.FateOutcomes.{IsRowAt, fate_nowhere, fate_no_item, f
 use Rattle.workbench.proofs.named_timeline.NamedTimeline.fate.Goals as goal
 
 pub returns-in_default : goal.returns-in_default
-returns-in_default c =
+returns-in_default g c =
     rw (← c.self.view_is, c.no_row.ensures)
     (sym (fate_nowhere _ c.args.number (rw c.timeline-timeline.ensures.rows at (sym c.place_of.ensures.place ∙ c.in_default.is))))
 
 pub returns-then-not-adds : goal.returns-then-not-adds
-returns-then-not-adds c =
+returns-then-not-adds g c =
     let t = named c.self.inside.name c.self.inside.session in
     let at : IsRowAt t c.args.number c.in-Some.place c.row_at-row.result = record {
       place_is = rw c.timeline-timeline.ensures.rows at (sym c.place_of.ensures.place ∙ c.in-Some.is);
@@ -20,11 +20,11 @@ returns-then-not-adds c =
     (sym (fate_no_item t c.args.number c.in-Some.place c.row_at-row.result at (sym c.adds.ensures ∙ c.if-not-adds.true)))
 
 pub fate_of-requires-clause-replayable : goal.fate_of-requires-clause-replayable
-fate_of-requires-clause-replayable c =
+fate_of-requires-clause-replayable g c =
     own_replayable c.self.inside.session.kind c.timeline-timeline.result.now c.in-Some.place (rw (← c.timeline-timeline.ensures.rows) at c.timeline-timeline.ensures.timeline.replayable)
 
 pub returns-in-Stays : goal.returns-in-Stays
-returns-in-Stays c =
+returns-in-Stays g c =
     let t = named c.self.inside.name c.self.inside.session in
     let at : IsRowAt t c.args.number c.in-Some.place c.row_at-row.result = record {
       place_is = rw c.timeline-timeline.ensures.rows at (sym c.place_of.ensures.place ∙ c.in-Some.is);
@@ -35,7 +35,7 @@ returns-in-Stays c =
     rw (← c.self.view_is) (sym (fate_stays t c.args.number c.in-Some.place c.row_at-row.result at (sym c.adds.ensures ∙ c.if-not-adds.false) stays))
 
 pub returns-in-Taken : goal.returns-in-Taken
-returns-in-Taken c =
+returns-in-Taken g c =
     let t = named c.self.inside.name c.self.inside.session in
     let at : IsRowAt t c.args.number c.in-Some.place c.row_at-row.result = record {
       place_is = rw c.timeline-timeline.ensures.rows at (sym c.place_of.ensures.place ∙ c.in-Some.is);

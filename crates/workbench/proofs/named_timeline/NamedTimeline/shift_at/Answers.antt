@@ -6,7 +6,7 @@ use Rattle.workbench.proofs.TimelineEffects.{made_replays, shift_refused, shifte
 use Rattle.workbench.proofs.named_timeline.NamedTimeline.shift_at.Goals as goal
 
 pub returns-in-Ok-clause-ok : goal.returns-in-Ok-clause-ok
-returns-in-Ok-clause-ok c =
+returns-in-Ok-clause-ok g c =
     let done = c.in-Ok.ensures in
     let fits = rw (← c.self.view_is) at c.in_default.ensures in
     let room : length c.self.inside.session.rows < most_rows = fits.0.0 in
@@ -17,7 +17,7 @@ returns-in-Ok-clause-ok c =
     (rw (done.session, c.next-number.ensures.next) at (c.tell_all.ensures c.self.inside.session.rows (rw done.session done.made))))
 
 pub returns-in-Err-clause-ok : goal.returns-in-Err-clause-ok
-returns-in-Err-clause-ok c =
+returns-in-Err-clause-ok g c =
     let fits = rw (← c.self.view_is) at c.in_default.ensures in
     let room : length c.self.inside.session.rows < most_rows = fits.0.0 in
     let number : c.self.inside.session.next < next_limit = fits.0.1 in
@@ -26,7 +26,7 @@ returns-in-Err-clause-ok c =
     c.refused_by.ensures)
 
 pub returns-in-Ok-clause-memory : goal.returns-in-Ok-clause-memory
-returns-in-Ok-clause-memory c =
+returns-in-Ok-clause-memory g c =
     let done = c.in-Ok.ensures in
     let fits = rw (← c.self.view_is) at c.in_default.ensures in
     let room : length c.self.inside.session.rows < most_rows = fits.0.0 in
@@ -35,7 +35,7 @@ returns-in-Ok-clause-memory c =
     (shifted_memory c.tell_all.result (named c.self.inside.name c.self.inside.session) c.args.target c.args.place _ room number done.step (made_replays _ _ _ done.made))
 
 pub returns-in-Err-clause-memory : goal.returns-in-Err-clause-memory
-returns-in-Err-clause-memory c =
+returns-in-Err-clause-memory g c =
     let fits = rw (← c.self.view_is) at c.in_default.ensures in
     let room : length c.self.inside.session.rows < most_rows = fits.0.0 in
     let number : c.self.inside.session.next < next_limit = fits.0.1 in

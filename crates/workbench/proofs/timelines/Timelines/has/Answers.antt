@@ -5,6 +5,6 @@ use Rattle.workbench.proofs.KeptTimelines.{any_shown}
 use Rattle.workbench.proofs.timelines.Timelines.has.Goals as goal
 
 pub returns : goal.returns
-returns c =
+returns g c =
     rw (← c.self.view_is)
     (c.has_name.ensures ∙ ap (list_any (is_kept_as c.args.name.now)) c.as_slice.ensures.value ∙ any_shown c.args.name.now c.self.inside.timelines.items)

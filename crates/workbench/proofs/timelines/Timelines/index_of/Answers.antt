@@ -4,6 +4,6 @@ use Rattle.workbench.proofs.KeptTimelines.{index_shown}
 use Rattle.workbench.proofs.timelines.Timelines.index_of.Goals as goal
 
 pub returns : goal.returns
-returns c =
+returns g c =
     rw (← c.self.view_is)
     (c.index_named.ensures ∙ ap (position (is_kept_as c.args.name.now)) c.as_slice.ensures.value ∙ index_shown c.args.name.now c.self.inside.timelines.items)

@@ -32,17 +32,17 @@ by_name timelines command name (inr (inr (inr (inr (inr (inr (inr (inl is)))))))
 by_name timelines command name (inr (inr (inr (inr (inr (inr (inr (inr is)))))))) = rw is refl
 
 pub let_go_if_spent-requires-clause-others : goal.let_go_if_spent-requires-clause-others
-let_go_if_spent-requires-clause-others c = unspent_others c.self.inside.timelines.items c.in-Some.index c.perform-refused.new.self c.self.invariant
+let_go_if_spent-requires-clause-others g c = unspent_others c.self.inside.timelines.items c.in-Some.index c.perform-refused.new.self c.self.invariant
 
 pub returns-in-Some : goal.returns-in-Some
-returns-in-Some c =
+returns-in-Some g c =
     rw (c.in-Ok.is, by_name c.args.self.now c.in-Ok.command c.in-Insert.name c.in-Insert.is, ← c.self.view_is)
     (kept_told c.perform-refused.result c.in-Insert.name (λ timeline. performs timeline c.in-Ok.command) c.self.inside.timelines.items c.let_go_if_spent.new.timelines.items c.in-Some.index
     c.index_mut.result.now c.perform-refused.new.self c.args.answer.now c.perform-refused.new.answer c.requires.empty
     (rw (← c.self.view_is) at c.in-Some.ensures) c.index_mut.ensures.value c.perform-refused.ensures.told c.perform-refused.ensures.unspent c.let_go_if_spent.ensures.same)
 
 pub returns-in-None : goal.returns-in-None
-returns-in-None c =
+returns-in-None g c =
     rw (c.in-Ok.is, by_name c.args.self.now c.in-Ok.command c.in-Insert.name c.in-Insert.is)
     (told_by c.tell_refusal-in-None.result (on_named c.in-Insert.name (λ timeline. performs timeline c.in-Ok.command) c.args.self.now) c.args.self.now
     (Refused (refusals.NoTimeline c.in-Insert.name)) c.tell_refusal-in-None.new.answer

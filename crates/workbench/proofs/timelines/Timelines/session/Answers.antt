@@ -5,7 +5,7 @@ use Rattle.workbench.proofs.Named.{session_nowhere}
 use Rattle.workbench.proofs.timelines.Timelines.session.Goals as goal
 
 pub returns-in-Some : goal.returns-in-Some
-returns-in-Some c =
+returns-in-Some g c =
     rw (← c.self.view_is) (
       kept_session c.args.name.now c.self.inside.timelines.items c.in-Some.index c.index.result.now c.session.result.now
           (rw (← c.self.view_is) at (sym c.in-Some.is ∙ c.index_of.ensures)) c.index.ensures c.session.ensures,
@@ -15,4 +15,4 @@ returns-in-Some c =
     )
 
 pub returns-in-None : goal.returns-in-None
-returns-in-None c = session_nowhere c.args.name.now c.args.self.now (sym c.in-None.is ∙ c.index_of.ensures)
+returns-in-None g c = session_nowhere c.args.name.now c.args.self.now (sym c.in-None.is ∙ c.index_of.ensures)
