@@ -1,4 +1,5 @@
 pub mod Ends
+pub mod Causes
 pub mod accepted
 pub mod Mirrored
 pub mod GoesOn
