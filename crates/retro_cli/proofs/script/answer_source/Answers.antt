@@ -15,5 +15,5 @@ pub returns-clause-cause : goal.returns-clause-cause
 returns-clause-cause g c =
     let did = c.answer_lines-answered in
     let cause = reader_cause g.S.Source g.K.Sink c.new-reader.result.reader did.new.reader.reader c.args.sink.now did.new.sink did.result
-        (search rules) (search rules) did.ensures.moves did.ensures.too_long did.ensures.source_faults did.ensures.sink_faults in
+    (search rules) (search rules) did.ensures.moves did.ensures.too_long did.ensures.source_faults did.ensures.sink_faults in
     search rules
