@@ -2,7 +2,7 @@
 """python3 tests/planted.py [CRATE..]: wrong bodies that the prover refuses, tried crate by crate on a copy of the tree.
 
 A file of tests/planted/CRATE/ is one wrong body in the form of a must-fail edit. They stand outside the gate, where each crate with one such edit
-would be proved once more. The copy stands below build/ while this runs, over what was proved of the crates below; the edits of
+would be proved once more. The copy stands below build/ while this runs, over what was proved before, as `make run` leaves it; the edits of
 a crate are tried by the tool itself. Ends with how many were refused, how many passed, and how many could not be applied.
 """
 
@@ -18,16 +18,27 @@ COPY = "build/planted"
 VERDICTS = {"refused": "refused, as it must be", "passed": "NOT REFUSED", "not applied": "BAD EDIT"}
 
 
+def link(file: str, to: str) -> None:
+    """Gives a file a second name, where the file system has links: the tool replaces such a file, and never writes into it."""
+    try:
+        os.link(file, to)
+    except OSError:
+        shutil.copy2(file, to)
+
+
 def copy_tree() -> None:
-    """Copies the sources, and what was built of each library, without any edit of the gate."""
+    """Copies the sources, and what was built and proved of each crate, without any edit of the gate."""
     shutil.rmtree(COPY, ignore_errors=True)
     os.makedirs(COPY)
     for name in ("crates.txt", "HANDLES"):
         shutil.copy(name, COPY)
     for crate in os.listdir("crates"):
-        for part in ("src", "specs", "proofs", "out/rlib"):
+        for part in ("src", "specs", "proofs"):
             if os.path.isdir(f"crates/{crate}/{part}"):
                 shutil.copytree(f"crates/{crate}/{part}", f"{COPY}/crates/{crate}/{part}")
+        for part in ("out/rlib", "out/incremental"):
+            if os.path.isdir(f"crates/{crate}/{part}"):
+                shutil.copytree(f"crates/{crate}/{part}", f"{COPY}/crates/{crate}/{part}", copy_function=link)
 
 
 def try_edits(crate: str) -> Dict[str, List[str]]:
