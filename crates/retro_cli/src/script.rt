@@ -27,8 +27,8 @@ use retro_io::{LineBuffer, LineReader, Mark, SendingSink, Sink, Source};
 use std::alloc::Global;
 use workbench::Bench;
 
-/// Answers one line: by the follower that it mutes, or by the bench, whose events the followers are handed. The answer takes the place
-/// of what `answer` holds.
+/// Answers one line: by the follower that it mutes, or by the bench, whose events the followers are handed before the answer is written.
+/// The answer takes the place of what `answer` holds.
 fn answer_line<R: AnyStructure, K: SendingSink>(
     line: &[u8],
     long: bool,

@@ -24,11 +24,11 @@ pub struct Turn {
     pub change: Change,
 }
 
-/// What an accepted step tells: the list edits that it has made, in order.
+/// What an accepted step tells, or its undo or redo: the list edits that were made, in order.
 #[derive(Clone, Copy, PartialEq, Eq)]
 pub enum Turns {
-    /// That of an insert or a delete.
+    /// That of a step of one list edit, an insert or a delete.
     Single { turn: Turn },
-    /// Those of a shift.
+    /// Those of a shift, which is of two.
     Double { first: Turn, second: Turn },
 }
