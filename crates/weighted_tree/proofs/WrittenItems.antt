@@ -2,7 +2,7 @@
 use Rattle.std.proofs.Common.{◌≡◌, ℕ, zero, suc, ◌+◌, ◌-◌, ◌<◌, ◌≤◌, List, [], ◌∷◌, ◌++◌, map, take, drop, length, length-append, refl, sym, ap, ◌∙◌, arith}
 use Rattle.std.specs.Prelude.{slice_set}
 use Rattle.std.proofs.Math.Seq.{take-append-add, take-append_seam, drop-append-add}
-use Rattle.std.proofs.lemmas.List.{append_assoc, map-append, length-map, set_split, length-take-le, length-drop, drop-drop}
+use Rattle.std.proofs.lemmas.List.{append_assoc, append-nil, take-append-le, take-append-drop, map-append, length-map, set_split, length-take-le, length-drop, drop-drop}
 use Rattle.weighted_tree.specs.Balance.{Part, weight}
 use Rattle.weighted_tree.specs.Nodes.{IsRoot}
 use Rattle.weighted_tree.specs.Reads.{overwritten, edge, VisitsOfRead}
@@ -32,6 +32,20 @@ module _ {A : Type 0} (former : List A) where
       ∙ ap (λ n. take place former ++ x ∷ drop n former) (let next : suc place ≡ place + length (x ∷ []) = omega arith in next)
       ∙ sym (append_assoc (take place former) (x ∷ []) (drop (place + length (x ∷ [])) former))
 
+take_none : {A : Type 0} (xs : List A) → [] ≡ take 0 xs
+take_none [] = refl
+take_none (x ∷ xs) = refl
+
+-- nothing written
+pub written_none : {A B : Type 0} (shows : A → B) (former : List B) (place : ℕ) (xs : List A) → former ≡ overwritten former place (map shows (take (place - place) xs))
+written_none shows former place xs =
+    let none : 0 ≡ place - place = omega arith in
+    let here : place ≡ place + 0 = omega arith in
+    sym (take-append-drop place former)
+    ∙ ap (λ n. take place former ++ drop n former) here
+    ∙ ap (λ xs. xs ++ drop (place + 0) former) (sym (append-nil (take place former)))
+    ∙ ap (λ ys. overwritten former place (map shows ys)) (take_none xs ∙ ap (λ n. take n xs) none)
+
 module _ {A : Type 0} (items left right : List A) (item : A) (split : items ≡ left ++ item ∷ right) where
   pub drop_right : (from inner : ℕ) → length left < from → inner ≡ from - length left - 1 → drop inner right ≡ drop from items
   drop_right from inner beyond inner_is = ap (λ n. drop n right) inner_is ∙ sym (ap (drop from) split ∙ drop-after left right item from beyond)
@@ -42,6 +56,12 @@ module _ {A : Type 0} (items left right : List A) (item : A) (split : items ≡ 
       ap (take count) (ap (drop from) split ∙ drop-before left right item from within)
       ∙ ap (λ n. take n (drop from left ++ item ∷ right)) (let same : count ≡ length (drop from left) + suc more = omega (arith, length-drop from left) in same)
       ∙ take-append-add (drop from left) (item ∷ right) (suc more)
+
+  -- some of the rest of the left side
+  pub written_left : (from count : ℕ) → from ≤ length left → count ≤ length left - from → take count (drop from left) ≡ take count (drop from items)
+  written_left from count within few =
+      sym (ap (take count) (ap (drop from) split ∙ drop-before left right item from within)
+      ∙ take-append-le count (drop from left) (item ∷ right) (omega (arith, length-drop from left)))
 
   take_left : (from : ℕ) → from ≤ length left → take (length left - from) (drop from left) ≡ drop from left
   take_left from within = let same : length left - from ≡ length (drop from left) = omega (arith, length-drop from left) in ap (λ n. take n (drop from left)) same ∙ take_own (drop from left) where
