@@ -1,11 +1,11 @@
 -- The causes of how a run ended that read by a reader of its own.
-use Rattle.std.proofs.Common.{◌≡◌, ◌↔◌, ℕ, Bool, ◌+◌, ◌-◌, ◌≤◌, ◌<◌, List, length, drop, Option, Some, None, Result, Err, rules, arith}
+use Rattle.std.proofs.Common.{◌≡◌, ◌↔◌, ℕ, Bool, ◌+◌, ◌-◌, List, Option, Some, None, Result, arith}
 use Rattle.std.specs.Prelude.{IsErrOf}
 use Rattle.retro_base.specs.Limits.{most_bytes}
 use Rattle.retro_io.specs.declared.line_reader.LineReader.{LineReader}
 use Rattle.retro_io.specs.declared.sink.Sink as sinks
 use Rattle.retro_io.specs.declared.source.Source as sources
-use Rattle.retro_io.specs.Faults.{CountsFaults, count_after, last_count}
+use Rattle.retro_io.specs.Faults.{CountsFaults}
 use Rattle.retro_io.specs.LineReader.{IsUnread, MovesOn, limit_of, source_of, taken}
 use Rattle.retro_io.specs.Source.{GivesCount}
 use Rattle.retro_cli.specs.declared.stop.Stop.{Stop}
