@@ -15,7 +15,6 @@ ghost use Rattle.retro.specs.Words.{words_after_name, words_refused};
 ghost use Rattle.retro_cli.specs.FollowedProgram.{HasNoForm, most_followers};
 ghost use Rattle.retro_cli.specs.Status.{code_of};
 
-use engine::Engine;
 use followers::{Follower, Mirror, Tally};
 use retro_base::{Name, NoMemory};
 use retro_cli::{Status, Words, run_sending};
@@ -73,7 +72,7 @@ fn run_gathered<S: Source, K: Sink + Drop>(
         followers.push(Box::new(alloc, Mirror::new(alloc, name))?)?;
     }
     let mut outbox = Outbox::new(alloc, sink)?;
-    let status = run_sending::<Engine, _, _>(alloc, words, source, &mut outbox, followers);
+    let status = run_sending(alloc, words, source, &mut outbox, followers);
     Ok((status, outbox))
 }
 

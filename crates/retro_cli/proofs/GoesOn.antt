@@ -16,8 +16,8 @@ use Rattle.retro_io.specs.Source.{Gives, bytes_left}
 use Rattle.retro_base.specs.Facts.{some_is, some_is_not_none}
 use Rattle.retro_base.specs.LineLength.{is_long}
 use Rattle.workbench.specs.Answers.{bench_after}
-use Rattle.workbench.specs.Bench.{Bench, BenchState, empty_bench}
-use Rattle.workbench.specs.Reaction.{Reaction, closing, reacts}
+use Rattle.timelines.specs.Bench.{Bench, BenchState, empty_bench}
+use Rattle.timelines.specs.Reaction.{Reaction, closing, reacts}
 use Rattle.retro_cli.specs.Audience.{Audience, Turn, audience_after, followed, follows, follows_to, mutes, turn}
 use Rattle.retro_cli.specs.Events.{report_lines}
 use Rattle.retro_cli.specs.OutOfMemory.{AppendsAnswersToEarlier, IsMetAtLine}

@@ -1,5 +1,4 @@
 pub mod Ends
-pub mod Causes
 pub mod accepted
 pub mod Mirrored
 pub mod GoesOn

@@ -24,7 +24,7 @@ use Rattle.retro_base.specs.declared.kind.Kind.TheVariants.{Pq}
 use Rattle.retro_base.specs.Bridges.{entries_of, survivors}
 use Rattle.retro_base.specs.Replay.{fold_rows, one_later, run}
 use Rattle.retro_base.specs.State.{State, empty, step}
-use Rattle.workbench.specs.Bench.{Bench, NamedTimeline, is_named, timeline_of, empty_bench}
+use Rattle.timelines.specs.Bench.{Bench, NamedTimeline, is_named, timeline_of, empty_bench}
 use Rattle.retro_cli.specs.Mirrored.{entries_in, entries_named, present_entries, ChangesAloneHoldThePresent}
 use Rattle.retro_cli.proofs.accepted.Effects.{reported_rows}
 use Rattle.retro_cli.proofs.accepted.Timelines.{names_of, rows_by_name}

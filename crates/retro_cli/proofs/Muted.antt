@@ -5,10 +5,10 @@ use Rattle.followers.specs.Followers.{Reporting}
 use Rattle.script_grammar.specs.declared.command.Command.{Command}
 use Rattle.script_grammar.specs.declared.command.Command.TheVariants.{Mute}
 use Rattle.script_grammar.specs.declared.command.LineError.{LineError}
-use Rattle.workbench.specs.Bench.{Bench, BenchState, NamedTimeline, OpenBlock}
-use Rattle.workbench.specs.declared.outcome.Outcome.TheVariants.{Refused}
-use Rattle.workbench.specs.declared.outcome.Refusal.TheVariants as refusals
-use Rattle.workbench.specs.Reaction.{Reaction, happens, leaves, outside, reacts_to, spelled, with_block}
+use Rattle.timelines.specs.Bench.{Bench, BenchState, NamedTimeline, OpenBlock}
+use Rattle.timelines.specs.declared.outcome.Outcome.TheVariants.{Refused}
+use Rattle.timelines.specs.declared.outcome.Refusal.TheVariants as refusals
+use Rattle.timelines.specs.Reaction.{Reaction, happens, leaves, outside, reacts_to, spelled, with_block}
 use Rattle.retro_cli.specs.declared.stop.Stop.{Stop}
 use Rattle.retro_cli.specs.Audience.{Audience, Turn, answers, follower_at, follows_to, hears, mutes, number_muted, reports, without}
 use Rattle.retro_cli.specs.Events.{events_among, report_line}

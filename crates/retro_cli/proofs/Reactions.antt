@@ -6,8 +6,8 @@ use Rattle.std.proofs.Math.Path.{fun_ext}
 use Rattle.std.proofs.lemmas.List.{map-append}
 use Rattle.std.proofs.lemmas.List.Folds.{concat-append, list_any-append}
 use Rattle.workbench.specs.Answers.{reactions, bench_after}
-use Rattle.workbench.specs.Bench.{Bench, empty_bench}
-use Rattle.workbench.specs.Reaction.{Reaction, reacts}
+use Rattle.timelines.specs.Bench.{Bench, empty_bench}
+use Rattle.timelines.specs.Reaction.{Reaction, reacts}
 use Rattle.retro_cli.specs.Audience.{Audience, audience_after, followed, followed_from, follows, texts_of, turn}
 use Rattle.retro_cli.specs.Events.{report_lines, with_reports}
 use Rattle.retro_cli.specs.Output.{Answering, alone, answers_by, close_of, output_by, refuses_by, whole_by}

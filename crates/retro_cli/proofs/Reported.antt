@@ -19,7 +19,7 @@ use Rattle.retro_io.specs.declared.sink.Sink as sinks
 use Rattle.retro_io.specs.declared.source.Source as sources
 use Rattle.retro_io.specs.SinkLaws.{Appends-append, AppendsPrefixOf-from}
 use Rattle.retro_io.specs.Lines.{lines}
-use Rattle.workbench.specs.Bench.{empty_bench}
+use Rattle.timelines.specs.Bench.{empty_bench}
 use Rattle.retro_cli.specs.declared.status.Status.{Status}
 use Rattle.retro_cli.specs.declared.status.Status.TheVariants as statuses
 use Rattle.retro_cli.specs.Ends.{Answers, EndsUnflushed, ScriptStands}

@@ -8,8 +8,8 @@ use Rattle.retro_base.specs.Name.{is_name, name_of}
 use Rattle.script_gen.specs.Coming.{GivesNext}
 use Rattle.script_gen.specs.Script.{generated, lines_from, state_later}
 use Rattle.workbench.specs.Answers.{bench_after, reactions}
-use Rattle.workbench.specs.Bench.{Bench, BenchState}
-use Rattle.workbench.specs.Reaction.{Reaction, reacts, reacts_to}
+use Rattle.timelines.specs.Bench.{Bench, BenchState}
+use Rattle.timelines.specs.Reaction.{Reaction, reacts, reacts_to}
 use Rattle.retro_cli.specs.Summary.{generated_name, one_if, refusals}
 
 abbrev count : List Reaction → ℕ

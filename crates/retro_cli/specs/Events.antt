@@ -5,8 +5,8 @@ use Rattle.retro_io.specs.Sink.{Appends}
 use Rattle.evidence.specs.declared.evidence.Evidence.{Evidence}
 use Rattle.evidence.specs.Reading.{evidence_of}
 use Rattle.workbench.specs.Answers.{reactions}
-use Rattle.workbench.specs.Bench.{empty_bench}
-use Rattle.workbench.specs.Reaction.{Reaction}
+use Rattle.timelines.specs.Bench.{empty_bench}
+use Rattle.timelines.specs.Reaction.{Reaction}
 
 -- the events that lines spell: other lines are passed over
 abbrev pub events_spelled : List (List ℕ) → List Evidence

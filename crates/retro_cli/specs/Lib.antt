@@ -1,4 +1,4 @@
-pub use Rattle.workbench.specs.Reaction
+pub use Rattle.timelines.specs.Reaction
 pub use Rattle.workbench.specs.Answers
 pub mod Ends
 pub mod OutOfMemory

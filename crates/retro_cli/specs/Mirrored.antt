@@ -10,7 +10,7 @@ use Rattle.evidence.specs.declared.evidence.Evidence.{Evidence}
 use Rattle.followers.specs.Followers.{Reporting}
 use Rattle.followers.specs.Mirrors.{held, mirror_text}
 use Rattle.workbench.specs.Answers.{bench_after}
-use Rattle.workbench.specs.Bench.{Bench, NamedTimeline, empty_bench, timeline_of}
+use Rattle.timelines.specs.Bench.{Bench, NamedTimeline, empty_bench, timeline_of}
 use Rattle.retro_cli.specs.Audience.{Audience, after_events, audience_after, follower_at}
 use Rattle.retro_cli.specs.Events.{events}
 

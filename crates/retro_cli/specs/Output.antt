@@ -4,8 +4,8 @@ use Rattle.std.specs.Prelude.{ℕ, Bool, ◌||◌, List, [], ◌∷◌, ◌++◌
 use Rattle.std.specs.List.{concat, list_any}
 use Rattle.retro_io.specs.Lines.{lines, has_line_feed}
 use Rattle.workbench.specs.Answers.{reactions, bench_after}
-use Rattle.workbench.specs.Bench.{empty_bench}
-use Rattle.workbench.specs.Reaction.{Reaction, closing}
+use Rattle.timelines.specs.Bench.{empty_bench}
+use Rattle.timelines.specs.Reaction.{Reaction, closing}
 use Rattle.retro_cli.specs.Events.{with_reports}
 
 -- how a script is answered: the reactions to its first lines, and what is reported after all of them, under each number

@@ -6,8 +6,8 @@ use Rattle.retro_base.specs.declared.kind.Kind.{Kind}
 use Rattle.retro_io.specs.Lines.{line_feed}
 use Rattle.script_gen.specs.Script.{generated}
 use Rattle.workbench.specs.Answers.{bench_after, reactions}
-use Rattle.workbench.specs.Bench.{Bench, NamedTimeline, empty_bench, present_size, timeline_of}
-use Rattle.workbench.specs.Reaction.{Reaction}
+use Rattle.timelines.specs.Bench.{Bench, NamedTimeline, empty_bench, present_size, timeline_of}
+use Rattle.timelines.specs.Reaction.{Reaction}
 
 -- the name of the timeline of a generated script
 abbrev pub generated_name : List ℕ

@@ -12,12 +12,12 @@ use crate::follow::write_reports;
 use crate::script::answer_source;
 use crate::stop::Stop;
 use followers::Follower;
-use retro_base::{AnyStructure, NoMemory};
+use retro_base::NoMemory;
 use retro_io::{Failed, SendingSink, Sink, Source};
 use std::alloc::Global;
 
 /// Reads a script and answers its lines, whose events the followers are handed, and then writes what each of them reports.
-fn answer_and_report<R: AnyStructure, S: Source, K: SendingSink>(
+fn answer_and_report<S: Source, K: SendingSink>(
     alloc: Global,
     source: &mut S,
     followers: &mut [Option<Box<dyn Follower>>],
@@ -30,14 +30,14 @@ fn answer_and_report<R: AnyStructure, S: Source, K: SendingSink>(
     ensures cause { HasCause ⟦<S as Source>⟧ ⟦<K as Sink>⟧ source.old source.new sink.old sink.new result }
     ensures sent { IfErr result (λ stop. StopsReading stop → K.waiting sink.new ≡ []) }
 {
-    let refused = answer_source::<R, _, _>(alloc, source, followers, sink)?;
+    let refused = answer_source(alloc, source, followers, sink)?;
     write_reports(alloc, followers, sink)?;
     Ok(refused)
 }
 
 /// Reads a script, answers its lines, reports, and sees to it that all arrives. Where it ends early, what was written whole before has
 /// gone on, unless the sink fails.
-pub(crate) fn follow_script<R: AnyStructure, S: Source, K: SendingSink>(
+pub(crate) fn follow_script<S: Source, K: SendingSink>(
     alloc: Global,
     source: &mut S,
     followers: &mut [Option<Box<dyn Follower>>],
@@ -48,7 +48,7 @@ pub(crate) fn follow_script<R: AnyStructure, S: Source, K: SendingSink>(
     ensures cause { HasCause ⟦<S as Source>⟧ ⟦<K as Sink>⟧ source.old source.new sink.old sink.new result }
     ensures sent { K.waiting sink.old ≡ [] → stops_at_write result ≡ false → K.waiting sink.new ≡ [] }
 {
-    let answered = answer_and_report::<R, _, _>(alloc, source, followers, sink);
+    let answered = answer_and_report(alloc, source, followers, sink);
     let refused = match answered {
         Ok(refused) => refused,
         Err(Stop::NoMemory) => {
@@ -64,7 +64,7 @@ pub(crate) fn follow_script<R: AnyStructure, S: Source, K: SendingSink>(
 }
 
 /// Gives the followers their numbers, and follows a script with them.
-pub(crate) fn follow_from_start<R: AnyStructure, S: Source, K: SendingSink>(
+pub(crate) fn follow_from_start<S: Source, K: SendingSink>(
     alloc: Global,
     source: &mut S,
     followers: Vec<Box<dyn Follower>>,
@@ -76,7 +76,7 @@ pub(crate) fn follow_from_start<R: AnyStructure, S: Source, K: SendingSink>(
     ensures sent { K.waiting sink.old ≡ [] → stops_at_write result ≡ false → K.waiting sink.new ≡ [] }
 {
     let mut numbered = all_left(alloc, followers)?;
-    follow_script::<R, _, _>(alloc, source, &mut numbered, sink)
+    follow_script(alloc, source, &mut numbered, sink)
 }
 
 /// The followers as they are handed in: each of them is left.

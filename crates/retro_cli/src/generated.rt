@@ -3,7 +3,7 @@
 ghost use Rattle.std.specs.Prelude.{◌≡◌, ◌≤◌, ◌<◌, ◌+◌, ◌-◌, ◌^◌, ◌++◌, [], false, length, Some, IfOk, IsErrOf, OnOk};
 ghost use Rattle.retro_io.specs.Faults.{CountsFaults};
 ghost use Rattle.workbench.specs.Answers.{bench_after};
-ghost use Rattle.workbench.specs.Bench.{present_size};
+ghost use Rattle.timelines.specs.Bench.{present_size};
 ghost use Rattle.retro_cli.specs.Delivery.{StandsAt};
 ghost use Rattle.retro_cli.specs.Forms.{most_generated};
 ghost use Rattle.retro_cli.specs.Stop.{stops_at_read, stops_at_write};
@@ -11,7 +11,7 @@ ghost use Rattle.retro_cli.specs.Summary.{of_generated, one_if, refusals, summar
 
 use crate::deliver::deliver;
 use crate::stop::Stop;
-use retro_base::{AnyStructure, Kind, Name, NoMemory, Text};
+use retro_base::{Kind, Name, NoMemory, Text};
 use retro_io::{SendingSink, Sink};
 use script_gen::ScriptGen;
 use std::alloc::Global;
@@ -47,10 +47,10 @@ impl Summary {
 }
 
 /// Answers the lines that a generator still has to give, and counts those that are refused.
-fn count_refusals<R: AnyStructure>(
+fn count_refusals(
     alloc: Global,
     generator: &mut ScriptGen,
-    bench: &mut Bench<R>,
+    bench: &mut Bench,
 ) -> Result<u32, NoMemory>
     requires few { length generator.old < 2 ^ 32 }
     requires unspent { bench.old.spent ≡ false }
@@ -76,7 +76,7 @@ fn one_if(is_refused: bool) -> u32
 }
 
 /// How many rows the timeline of a generated script has, and how many items, pairs or entries.
-fn count_rows<R: AnyStructure>(bench: &Bench<R>) -> (u32, u32)
+fn count_rows(bench: &Bench) -> (u32, u32)
     requires { bench.now.spent ≡ false }
     ensures { result ≡ (of_generated (λ timeline. length timeline.rows) bench.now.bench, of_generated present_size bench.now.bench) }
 {
@@ -90,17 +90,12 @@ fn count_rows<R: AnyStructure>(bench: &Bench<R>) -> (u32, u32)
 }
 
 /// Sums a generated script up.
-fn sum_up<R: AnyStructure>(
-    alloc: Global,
-    kind: Kind,
-    lines: u32,
-    start: u64,
-) -> Result<Summary, NoMemory>
+fn sum_up(alloc: Global, kind: Kind, lines: u32, start: u64) -> Result<Summary, NoMemory>
     requires { lines ≤ most_generated }
     ensures { IfOk result (λ of. (of.refused ≤ of.lines) × (summary_text of.lines of.refused of.rows of.size ≡ summary kind lines start)) }
 {
     let mut generator = ScriptGen::new(kind, lines, start);
-    let mut bench = Bench::<R>::new(alloc);
+    let mut bench = Bench::new(alloc);
     let refused = count_refusals(alloc, &mut generator, &mut bench)?;
     let (rows, size) = count_rows(&bench);
     Ok(Summary {
@@ -112,7 +107,7 @@ fn sum_up<R: AnyStructure>(
 }
 
 /// Answers a generated script, and writes what it comes to. Nothing is read.
-pub(crate) fn run_generated<R: AnyStructure, K: SendingSink>(
+pub(crate) fn run_generated<K: SendingSink>(
     alloc: Global,
     kind: Kind,
     lines: u32,
@@ -127,7 +122,7 @@ pub(crate) fn run_generated<R: AnyStructure, K: SendingSink>(
     ensures sink_faults { CountsFaults (stops_at_write result) (K.faults sink.old) (K.faults sink.new) }
     ensures sent { K.waiting sink.old ≡ [] → stops_at_write result ≡ false → K.waiting sink.new ≡ [] }
 {
-    let summary = sum_up::<R>(alloc, kind, lines, start)?;
+    let summary = sum_up(alloc, kind, lines, start)?;
     let mut text = Text::new(alloc);
     summary.print(&mut text)?;
     deliver(text.as_bytes(), sink)?;

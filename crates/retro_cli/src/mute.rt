@@ -3,7 +3,7 @@
 ghost use Rattle.std.specs.Prelude.{◌≡◌, ◌≤◌, [], None, Some, false, length, option_map, IfOk, IfSome, IsSome, IsTrue, OnOk};
 ghost use Rattle.retro_base.specs.Limits.{longest_line};
 ghost use Rattle.retro_io.specs.Faults.{CountsFaults};
-ghost use Rattle.workbench.specs.Reaction.{reacts_to};
+ghost use Rattle.timelines.specs.Reaction.{reacts_to};
 ghost use Rattle.retro_cli.specs.Audience.{answers, audience_by, follower_at, follows_to, mutes, without};
 ghost use Rattle.retro_cli.specs.Delivery.{Writes};
 ghost use Rattle.retro_cli.specs.Events.{report_line};
@@ -12,16 +12,16 @@ ghost use Rattle.retro_cli.specs.Stop.{stops_at_write};
 use crate::follow::write_report;
 use crate::stop::Stop;
 use followers::Follower;
-use retro_base::{AnyStructure, Text};
+use retro_base::Text;
 use retro_io::{SendingSink, Sink};
 use script_grammar::{Command, read_line};
 use workbench::Bench;
 
 /// The number of the follower that a line mutes, if that is left; none where the bench answers the line.
-pub(crate) fn muted<R: AnyStructure>(
+pub(crate) fn muted(
     line: &[u8],
     long: bool,
-    bench: &Bench<R>,
+    bench: &Bench,
     followers: &[Option<Box<dyn Follower>>],
 ) -> Option<u32>
     requires within { length line.now ≤ longest_line }
@@ -44,7 +44,7 @@ pub(crate) fn muted<R: AnyStructure>(
 }
 
 /// The number that a line mutes; within a block it mutes none.
-fn number_muted<R: AnyStructure>(line: &[u8], long: bool, bench: &Bench<R>) -> Option<u32>
+fn number_muted(line: &[u8], long: bool, bench: &Bench) -> Option<u32>
     requires within { length line.now ≤ longest_line }
     requires full { IsTrue long → length line.now ≡ longest_line }
     requires unspent { bench.now.spent ≡ false }

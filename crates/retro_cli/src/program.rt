@@ -16,7 +16,6 @@ use crate::generated::run_generated;
 use crate::stop::Stop;
 use crate::{Status, Words};
 use followers::Follower;
-use retro_base::AnyStructure;
 use retro_io::{DirectSink, SendingSink, Sink, Source};
 use std::alloc::Global;
 
@@ -24,12 +23,7 @@ use std::alloc::Global;
 /// sink, before it reads the next one. With `check` it reads lines of evidence and writes their judgement; with
 /// `gen KIND N START` it reads nothing, answers a generated script and writes what it comes to. With other words it reads
 /// and writes nothing.
-pub fn run<R: AnyStructure, S: Source, K: Sink>(
-    alloc: Global,
-    words: &Words,
-    source: &mut S,
-    sink: &mut K,
-) -> Status
+pub fn run<S: Source, K: Sink>(alloc: Global, words: &Words, source: &mut S, sink: &mut K) -> Status
     // What stands at each status, when each comes, completeness, and the counts of faults: the parts of `KeepsPromise`.
     ensures promise { RunsAlone ⟦<S as Source>⟧ ⟦<K as Sink>⟧ no_sends source.old source.new sink.old sink.new result words.now }
     // At a fault of the sink, less than all of it at a write that failed, and all of it only at a flush that failed.
@@ -37,7 +31,7 @@ pub fn run<R: AnyStructure, S: Source, K: Sink>(
         → EndsUnsent ⟦<S as Source>⟧ ⟦<K as Sink>⟧ source.old source.new sink.old sink.new (form_of words.now) }
 {
     let mut direct = DirectSink::new(sink);
-    let status = run_by_form::<R, _, _>(alloc, words, source, &mut direct);
+    let status = run_by_form(alloc, words, source, &mut direct);
     // Its clause says what became of the sink.
     let _sink = direct.into_inner();
     status
@@ -46,7 +40,7 @@ pub fn run<R: AnyStructure, S: Source, K: Sink>(
 /// Runs the program as `run` does, and with the words `follow` and `follow NAME` as with the word `run`, but that the followers are
 /// handed the changes of priority queues. A line `mute I` is then answered by what follower I reports, `report I TEXT`, and lets it
 /// go; what each of those who are left reports stands after the answers. With the other words no follower is asked.
-pub fn run_followed<R: AnyStructure, S: Source, K: Sink>(
+pub fn run_followed<S: Source, K: Sink>(
     alloc: Global,
     words: &Words,
     source: &mut S,
@@ -62,7 +56,7 @@ pub fn run_followed<R: AnyStructure, S: Source, K: Sink>(
         (is_follow words.now) (form_of words.now) }
 {
     let mut direct = DirectSink::new(sink);
-    let status = run_sending::<R, _, _>(alloc, words, source, &mut direct, followers);
+    let status = run_sending(alloc, words, source, &mut direct, followers);
     // Its clause says what became of the sink.
     let _sink = direct.into_inner();
     status
@@ -70,7 +64,7 @@ pub fn run_followed<R: AnyStructure, S: Source, K: Sink>(
 
 /// Runs the program as `run_followed` does over a sink at which bytes may wait. What waits there is sent before each read of the
 /// source for a line, and where the run ends. A send that fails ends the run as a write that fails does.
-pub fn run_sending<R: AnyStructure, S: Source, K: SendingSink>(
+pub fn run_sending<S: Source, K: SendingSink>(
     alloc: Global,
     words: &Words,
     source: &mut S,
@@ -84,14 +78,14 @@ pub fn run_sending<R: AnyStructure, S: Source, K: SendingSink>(
     ensures sent { K.waiting sink.old ≡ [] → is_write_fault result ≡ false → K.waiting sink.new ≡ [] }
 {
     if is_follow(words) {
-        status_after(follow_from_start::<R, _, _>(alloc, source, followers, sink))
+        status_after(follow_from_start(alloc, source, followers, sink))
     } else {
-        run_by_form::<R, _, _>(alloc, words, source, sink)
+        run_by_form(alloc, words, source, sink)
     }
 }
 
 /// Runs the program as `run` does, and sends what waits.
-fn run_by_form<R: AnyStructure, S: Source, K: SendingSink>(
+fn run_by_form<S: Source, K: SendingSink>(
     alloc: Global,
     words: &Words,
     source: &mut S,
@@ -101,10 +95,10 @@ fn run_by_form<R: AnyStructure, S: Source, K: SendingSink>(
     ensures sent { K.waiting sink.old ≡ [] → is_write_fault result ≡ false → K.waiting sink.new ≡ [] }
 {
     match form_of(words) {
-        Some(Form::Run) => status_after(follow_script::<R, _, _>(alloc, source, &mut [], sink)),
+        Some(Form::Run) => status_after(follow_script(alloc, source, &mut [], sink)),
         Some(Form::Check) => status_after(run_check(alloc, source, sink)),
         Some(Form::Gen { kind, lines, start }) => {
-            status_after(run_generated::<R, _>(alloc, kind, lines, start, sink))
+            status_after(run_generated(alloc, kind, lines, start, sink))
         }
         None => Status::Words,
     }

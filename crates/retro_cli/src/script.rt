@@ -12,8 +12,8 @@ ghost use Rattle.retro_cli.specs.Ends.{EndsUnflushed, ScriptStands};
 ghost use Rattle.retro_cli.specs.Promise.{HasCause};
 ghost use Rattle.retro_cli.specs.Run.{AppendsOutput};
 ghost use Rattle.retro_cli.specs.Stop.{StopsReading, status_after, stops_at_read, stops_at_write};
-ghost use Rattle.workbench.specs.Bench.{empty_bench};
-ghost use Rattle.workbench.specs.Reaction.{closing};
+ghost use Rattle.timelines.specs.Bench.{empty_bench};
+ghost use Rattle.timelines.specs.Reaction.{closing};
 
 use crate::MAX_BYTES;
 use crate::deliver::{append, send};
@@ -22,17 +22,17 @@ use crate::mute::{answer_by_follower, muted};
 use crate::sent_reader::SentReader;
 use crate::stop::Stop;
 use followers::Follower;
-use retro_base::{AnyStructure, Text};
+use retro_base::Text;
 use retro_io::{LineBuffer, LineReader, Mark, SendingSink, Sink, Source};
 use std::alloc::Global;
 use workbench::Bench;
 
 /// Answers one line: by the follower that it mutes, or by the bench, whose events the followers are handed before the answer is written.
 /// The answer takes the place of what `answer` holds.
-fn answer_line<R: AnyStructure, K: SendingSink>(
+fn answer_line<K: SendingSink>(
     line: &[u8],
     long: bool,
-    bench: &mut Bench<R>,
+    bench: &mut Bench,
     followers: &mut [Option<Box<dyn Follower>>],
     answer: &mut Text,
     sink: &mut K,
@@ -57,8 +57,8 @@ fn answer_line<R: AnyStructure, K: SendingSink>(
 }
 
 /// Closes the block that is being read, if there is one, and writes the answer, which takes the place of what `answer` holds.
-fn answer_end<R: AnyStructure, K: SendingSink>(
-    bench: &mut Bench<R>,
+fn answer_end<K: SendingSink>(
+    bench: &mut Bench,
     answer: &mut Text,
     sink: &mut K,
 ) -> Result<bool, Stop>
@@ -93,9 +93,9 @@ fn send_before_read<S: Source, K: SendingSink>(
 
 /// Answers the lines that a reader gives, up to the end of the input, by a new bench. The answer to each is written before the next one
 /// is read, and where the source is read for that, it is sent before. One text holds each answer in its turn.
-fn answer_lines<R: AnyStructure, S: Source, K: SendingSink>(
+fn answer_lines<S: Source, K: SendingSink>(
     reader: &mut SentReader<'_, S>,
-    bench: &mut Bench<R>,
+    bench: &mut Bench,
     followers: &mut [Option<Box<dyn Follower>>],
     answer: &mut Text,
     sink: &mut K,
@@ -131,7 +131,7 @@ fn answer_lines<R: AnyStructure, S: Source, K: SendingSink>(
 }
 
 /// Reads a script and answers its lines, whose events the followers are handed.
-pub(crate) fn answer_source<R: AnyStructure, S: Source, K: SendingSink>(
+pub(crate) fn answer_source<S: Source, K: SendingSink>(
     alloc: Global,
     source: &mut S,
     followers: &mut [Option<Box<dyn Follower>>],
@@ -148,7 +148,7 @@ pub(crate) fn answer_source<R: AnyStructure, S: Source, K: SendingSink>(
 {
     let buffer = LineBuffer::new(alloc)?;
     let mut reader = SentReader::new(LineReader::with_buffer(buffer, source, MAX_BYTES));
-    let mut bench = Bench::<R>::new(alloc);
+    let mut bench = Bench::new(alloc);
     let mut text = Text::new(alloc);
     let answered = answer_lines(&mut reader, &mut bench, followers, &mut text, sink);
     // Its clause says what became of the source.

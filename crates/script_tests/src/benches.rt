@@ -7,27 +7,27 @@ use std::process::Abort;
 use workbench::Bench;
 
 /// What a bench that memory has sufficed for answers to a line that is not long.
-fn answer(rt: &impl Abort, bench: &mut Bench<Engine>, line: &[u8]) -> Text {
+fn answer(rt: &impl Abort, bench: &mut Bench, line: &[u8]) -> Text {
     assert!(rt; line.len() <= 4096);
     assert!(rt; !bench.spent());
     bench.line(line, false).expect(rt, "memory").text
 }
 
 /// What it answers to the end of the input.
-fn last_answer(rt: &impl Abort, bench: &mut Bench<Engine>) -> Text {
+fn last_answer(rt: &impl Abort, bench: &mut Bench) -> Text {
     assert!(rt; !bench.spent());
     bench.end().expect(rt, "memory").text
 }
 
 /// Whether the timeline of this name is held as a product of pieces.
-fn is_fused(rt: &impl Abort, bench: &Bench<Engine>, name: &[u8]) -> bool {
+fn is_fused(rt: &impl Abort, bench: &Bench, name: &[u8]) -> bool {
     let name = Name::read(name).expect(rt, "a name");
     assert!(rt; !bench.spent());
     let session = bench.session(&name).expect(rt, "a timeline");
     matches!(session.structure(), Engine::Fused { .. })
 }
 
-fn expect_lines(rt: &impl Abort, bench: &mut Bench<Engine>, lines: &[(&[u8], &[u8])]) {
+fn expect_lines(rt: &impl Abort, bench: &mut Bench, lines: &[(&[u8], &[u8])]) {
     for (line, expected) in lines {
         assert!(rt; answer(rt, bench, *line).as_bytes() == *expected);
     }
@@ -57,7 +57,7 @@ const LOADS: [(&[u8], &[u8]); 5] = [
 ];
 
 /// Which of two priority queues is held as a product of pieces.
-fn expect_held(rt: &impl Abort, bench: &Bench<Engine>) {
+fn expect_held(rt: &impl Abort, bench: &Bench) {
     assert!(rt; !is_fused(rt, bench, b"p"));
     assert!(rt; is_fused(rt, bench, b"f"));
 }
@@ -66,7 +66,7 @@ fn expect_held(rt: &impl Abort, bench: &Bench<Engine>) {
 /// by checkpoints. The end of the input closes a block that is being read.
 #[test]
 fn a_bench_answers_line_by_line(rt: HostRuntime) {
-    let mut bench = Bench::<Engine>::new(rt.alloc());
+    let mut bench = Bench::new(rt.alloc());
     expect_lines(&rt, &mut bench, &STARTS);
     expect_held(&rt, &bench);
     expect_lines(&rt, &mut bench, &EDITS);

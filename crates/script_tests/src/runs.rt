@@ -3,7 +3,6 @@
 ghost use Rattle.std.specs.Prelude.{◌≤◌, None};
 ghost use Rattle.retro_io.specs.Faults.{last_count};
 
-use engine::Engine;
 use followers::{Follower, Mirror, Tally};
 use retro_base::Name;
 use retro_cli::{Status, Words, run, run_followed, run_sending};
@@ -66,7 +65,7 @@ fn sink_of(rt: &impl Abort, alloc: Global, given: &Given<'_>) -> MemorySink {
 fn run_over<K: Sink>(rt: &impl Abort, alloc: Global, given: &Given<'_>, sink: &mut K) -> Status {
     let words = words_of(rt, alloc, given);
     let mut source = source_of(rt, alloc, given);
-    run::<Engine, _, _>(alloc, &words, &mut source, sink)
+    run(alloc, &words, &mut source, sink)
 }
 
 fn expect_run(rt: &impl Abort, alloc: Global, given: &Given<'_>, (answers, status): Ended<'_>) {
@@ -86,13 +85,7 @@ fn expect_gathered(
     let words = words_of(rt, alloc, given);
     let mut source = source_of(rt, alloc, given);
     let mut outbox = Outbox::new(alloc, sink_of(rt, alloc, given)).expect(rt, "memory");
-    let ended = run_sending::<Engine, _, _>(
-        alloc,
-        &words,
-        &mut source,
-        &mut outbox,
-        Vec::new(alloc),
-    );
+    let ended = run_sending(alloc, &words, &mut source, &mut outbox, Vec::new(alloc));
     assert!(rt; outbox.sink().written() == answers);
     assert!(rt; ended == status);
 }
@@ -275,7 +268,7 @@ fn expect_followed(
     let mut source = source_of(rt, alloc, given);
     let mut sink = sink_of(rt, alloc, given);
     assert!(rt; followers.len() <= 1024);
-    let ended = run_followed::<Engine, _, _>(alloc, &words, &mut source, &mut sink, followers);
+    let ended = run_followed(alloc, &words, &mut source, &mut sink, followers);
     assert!(rt; sink.written() == answers);
     assert!(rt; ended == status);
 }

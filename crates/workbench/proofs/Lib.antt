@@ -1,15 +1,5 @@
-pub mod Named
-pub mod AnsweredLine
-pub mod KeptTimelines
-pub mod TimelineEffects
-pub mod Memory
 pub mod Refusals
-pub mod OpenBlocks
 pub mod Names
 pub mod Shares
 pub mod OwnLines
-pub mod Loaded
-pub mod NamedChanges
-pub mod FateOutcomes
-pub mod Sizes
 pub mod FusedLines

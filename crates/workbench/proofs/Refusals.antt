@@ -1,7 +1,5 @@
 -- A line that is refused leaves the bench as it was.
 use Rattle.std.proofs.Common.{◌≡◌, ℕ, ◌+◌, Bool, true, false, cond, nat_le, List, [], ◌∷◌, length, refl, sym, ap, ◌∙◌, Option, Some, None, Result, Ok, Err, IfOk}
-use Rattle.retro_base.specs.declared.kind.Kind.{Kind}
-use Rattle.retro_base.specs.declared.kind.Kind.TheVariants.{Queue, Stack, Deque, Dict, Pq}
 use Rattle.retro_base.specs.declared.op.Op.{Op}
 use Rattle.retro_base.specs.Limits.{most_rows, next_limit}
 use Rattle.retro_base.specs.Edits.{Edit, Step, add, edited_by, inverse_step}
@@ -19,20 +17,20 @@ use Rattle.timeline_file.specs.Block.{finished}
 use Rattle.std.specs.Prelude.{not, ◌&&◌, if◌then◌else◌}
 use Rattle.script_grammar.specs.declared.command.Spot.{Spot}
 use Rattle.retro_base.specs.Limits.{most_timelines}
-use Rattle.workbench.specs.declared.outcome.Outcome.{Outcome}
-use Rattle.workbench.specs.declared.outcome.Outcome.TheVariants.{Silent, Accepted, Inserted, Refused}
-use Rattle.workbench.specs.declared.outcome.Refusal.TheVariants as refusals
-use Rattle.workbench.specs.declared.position.Position.{Position}
-use Rattle.workbench.specs.Bench.{NamedTimeline, OpenBlock, Bench, fresh, is_named, has_timeline}
-use Rattle.workbench.specs.Outcome.{is_refusal}
-use Rattle.workbench.specs.Reaction.{Effect, BenchEffect, Reaction, reaction_of, leaves, if_startable, with_timeline, on_named, obeys, opened, outside, happens, loads, closes, ends, with_line, with_block, without_block}
-use Rattle.workbench.specs.TimelineEffects.{TimelineEffect, refuses, accepted_or_refused, after_step, makes, edits, tells, new_row, row_named, position_of}
-use Rattle.workbench.specs.TimelineEffects.{inserts_there, inserts_at, cut_of, deletes_by, inserts, deletes, shift_of_row, shifts_there, shifts_by, shifts}
-use Rattle.workbench.specs.TimelineEffects.{moves, changes, unchanged, answers, answers_fate, undoes_step, undoes, redoes_step, redoes, saves}
+use Rattle.timelines.specs.declared.outcome.Outcome.{Outcome}
+use Rattle.timelines.specs.declared.outcome.Outcome.TheVariants.{Silent, Accepted, Inserted, Refused}
+use Rattle.timelines.specs.declared.outcome.Refusal.TheVariants as refusals
+use Rattle.timelines.specs.declared.position.Position.{Position}
+use Rattle.timelines.specs.Bench.{NamedTimeline, OpenBlock, Bench, fresh, is_named, has_timeline}
+use Rattle.timelines.specs.Outcome.{is_refusal}
+use Rattle.timelines.specs.Reaction.{Effect, BenchEffect, Reaction, reaction_of, leaves, if_startable, with_timeline, on_named, obeys, opened, outside, happens, loads, closes, ends, with_line, with_block, without_block}
+use Rattle.timelines.specs.TimelineEffects.{TimelineEffect, refuses, accepted_or_refused, after_step, makes, edits, tells, new_row, row_named, position_of}
+use Rattle.timelines.specs.TimelineEffects.{inserts_there, inserts_at, cut_of, deletes_by, inserts, deletes, shift_of_row, shifts_there, shifts_by, shifts}
+use Rattle.timelines.specs.TimelineEffects.{moves, changes, unchanged, answers, answers_fate, undoes_step, undoes, redoes_step, redoes, saves}
 use Rattle.timeline_undo.specs.History.{newest_step}
 use Rattle.timeline_undo.specs.declared.shift.Target.{Target}
 use Rattle.timeline_undo.specs.declared.shift.Target.TheVariants.{At, Into}
-use Rattle.workbench.specs.Reported.{reported}
+use Rattle.timelines.specs.ReactionLaws.{reported_is_no_refusal}
 use Rattle.retro_base.specs.Facts.{not_both}
 
 -- the effect leaves the timeline as it was, where it is a refusal
@@ -47,16 +45,6 @@ keeps_accepted_or_refused : (timeline after : NamedTimeline) (outcome : Outcome)
     → Keeps timeline (accepted_or_refused timeline after outcome failing)
 keeps_accepted_or_refused timeline after outcome None accepted = λ refused. absurd (not_both (is_refusal outcome) accepted refused)
 keeps_accepted_or_refused timeline after outcome (Some index) accepted = λ refused. refl
-
--- what is reported of an accepted step is no refusal
-pub reported_is_no_refusal : (name : List ℕ) (kind : Kind) (rows : List Row) (step : Step) (plain : Outcome) → is_refusal plain ≡ false
-    → is_refusal (reported name kind rows step plain) ≡ false
-reported_is_no_refusal name Queue rows step plain accepted = accepted
-reported_is_no_refusal name Stack rows step plain accepted = accepted
-reported_is_no_refusal name Deque rows step plain accepted = accepted
-reported_is_no_refusal name Dict rows step plain accepted = accepted
-reported_is_no_refusal name Pq rows [] plain accepted = accepted
-reported_is_no_refusal name Pq rows (edit ∷ more) plain accepted = refl
 
 keeps_makes : (timeline : NamedTimeline) (step : Step) (next : ℕ) (outcome : Outcome) → is_refusal outcome ≡ false → Keeps timeline (makes timeline step next outcome)
 keeps_makes timeline step next outcome accepted =

@@ -1,7 +1,7 @@
 -- The reactions to the lines of a script, each on the bench that the lines before it have left.
 use Rattle.std.specs.Prelude.{ℕ, List, [], ◌∷◌}
-use Rattle.workbench.specs.Bench.{Bench}
-use Rattle.workbench.specs.Reaction.{Reaction, reacts}
+use Rattle.timelines.specs.Bench.{Bench}
+use Rattle.timelines.specs.Reaction.{Reaction, reacts}
 
 -- the reactions to lines, one for each
 unfoldable pub reactions : Bench → List (List ℕ) → List Reaction

@@ -1,14 +1,3 @@
-pub use Rattle.retro_base.specs.Kind
-pub use Rattle.script_grammar.specs.Command
-pub mod Bench
-pub mod EditErrors
-pub mod Outcome
-pub mod Reported
-pub mod TimelineEffects
-pub mod Reaction
-pub mod AnsweredLine
-pub mod OpenBlocks
-pub mod ReactionLaws
 pub mod Answers
 pub mod OwnLines
 pub mod FusedLines

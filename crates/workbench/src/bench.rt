@@ -3,17 +3,16 @@
 ghost use Rattle.std.specs.Prelude.{◌≡◌, ◌≤◌, ◌⊎◌, [], length, is_err, is_some, true, false, None, Some, IsTrue, IfOk, OnOk, OnErr, MatchOption, option_map};
 ghost use Rattle.retro_base.specs.Limits.{longest_line};
 ghost use Rattle.script_grammar.specs.Command.{IsProper};
-ghost use Rattle.retro_base.specs.Replay.{present};
-ghost use Rattle.workbench.specs.Bench.{NamedTimeline, empty_bench, named, present_size, size_of, timeline_of};
-ghost use Rattle.workbench.specs.Reaction.{closing, ends, opened, reaction_of, reacts_to, with_line, without_block};
+ghost use Rattle.timelines.specs.Bench.{NamedTimeline, empty_bench, named, present_size, timeline_of};
+ghost use Rattle.timelines.specs.Reaction.{closing, ends, opened, reaction_of, reacts_to, with_line, without_block};
 
-use crate::open_block::OpenBlock;
-use crate::timelines::Timelines;
-use retro_base::{Answer, AnyStructure, Name, NoMemory, Question, Text};
+use engine::Engine;
+use retro_base::{Name, NoMemory, Text};
 use script_grammar::{Command, LineError, is_end, read_line};
 use std::alloc::Global;
 use std::marker::Model;
 use timeline_undo::Session;
+use timelines::{OpenBlock, Timelines};
 
 /// What a line is answered.
 #[derive(Drop)]
@@ -27,24 +26,24 @@ pub struct Reply {
 /// The timelines that a script has made, and the block that is being read. A bench that met out of memory is
 /// spent, and takes no more lines.
 #[derive(Drop)]
-pub struct Bench<R: AnyStructure> {
+pub struct Bench {
     alloc: Global,
-    timelines: Timelines<R>,
+    timelines: Timelines<Engine>,
     block: Option<OpenBlock>,
     spent: bool,
 }
 
-impl<R: AnyStructure> Model for Bench<R> {
-    ghost use Rattle.workbench.specs.Bench.{BenchState};
+impl Model for Bench {
+    ghost use Rattle.timelines.specs.Bench.{BenchState};
 
     ghost Value = { BenchState };
 
     ghost view = { λ b. record { bench = record { timelines = b.timelines; block = b.block }; spent = b.spent } };
 }
 
-impl<R: AnyStructure> Bench<R> {
+impl Bench {
     /// A bench without a timeline.
-    pub fn new(alloc: Global) -> Bench<R>
+    pub fn new(alloc: Global) -> Bench
         ensures { result ≡ record { bench = empty_bench; spent = false } }
     {
         Bench {
@@ -150,7 +149,7 @@ impl<R: AnyStructure> Bench<R> {
     }
 
     /// The session of the timeline of this name; none where no timeline has it.
-    pub fn session(&self, name: &Name) -> Option<&Session<R>>
+    pub fn session(&self, name: &Name) -> Option<&Session<Engine>>
         requires { self.now.spent ≡ false }
         ensures { MatchOption result (timeline_of name.now self.now.bench.timelines ≡ None)
             (λ session. (timeline_of name.now self.now.bench.timelines ≡ Some (named name.now session.now)) × (session.now.spent ≡ false)) }
@@ -163,10 +162,7 @@ impl<R: AnyStructure> Bench<R> {
         requires { self.now.spent ≡ false }
         ensures { result ≡ option_map (λ (timeline : NamedTimeline). length timeline.rows) (timeline_of name.now self.now.bench.timelines) }
     {
-        match self.session(name) {
-            Some(session) => Some(session.timeline().len()),
-            None => None,
-        }
+        self.timelines.rows_of(name)
     }
 
     /// How many items, pairs or entries the timeline of this name holds at present; none where no timeline has it.
@@ -174,10 +170,7 @@ impl<R: AnyStructure> Bench<R> {
         requires { self.now.spent ≡ false }
         ensures { result ≡ option_map present_size (timeline_of name.now self.now.bench.timelines) }
     {
-        match self.session(name) {
-            Some(session) => Some(size_of(session)),
-            None => None,
-        }
+        self.timelines.size_of(name)
     }
 
     /// Begins the block that a line opens, if it is a header.
@@ -230,18 +223,5 @@ impl<R: AnyStructure> Bench<R> {
             unclosed.take(line, long)?;
         }
         Ok(false)
-    }
-}
-
-/// How many items, pairs or entries a session holds at present.
-fn size_of<R: AnyStructure>(session: &Session<R>) -> u32
-    requires { session.now.spent ≡ false }
-    ensures { result ≡ size_of (present session.now.kind session.now.rows) }
-{
-    // Its clause says that the rows are few.
-    let _rows = session.timeline().len();
-    match session.ask_now(Question::Size) {
-        Answer::Number { value } => value as u32,
-        _ => 0,
     }
 }

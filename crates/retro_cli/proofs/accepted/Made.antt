@@ -21,7 +21,7 @@ use Rattle.retro_base.specs.lemmas.Replayable.{all_before}
 use Rattle.evidence.specs.Evidence.{IsPqOp, IsRowNumber, IsValue}
 use Rattle.evidence_check.specs.Laws.{HasRoom, IsInRange, edit_row}
 use Rattle.script_grammar.specs.SpellingLaws as grammar
-use Rattle.workbench.specs.Reported.{appends_from}
+use Rattle.timelines.specs.Reported.{appends_from}
 use Rattle.retro_cli.proofs.accepted.Leads.{Leads, leads_back, leads_so}
 use Rattle.retro_base.specs.Replay.{IsValid}
 use Rattle.retro_base.specs.ReplayableLaws.{replayable_with, replayable_without}

@@ -10,8 +10,8 @@ use Rattle.evidence_check.specs.Judgement.{Judge, nothing_reported}
 use Rattle.evidence_check.specs.Laws.{EditsAreSpelled, EditsAreReported}
 use Rattle.timeline_undo.specs.Back.{ShiftsCanBeMade}
 use Rattle.workbench.specs.Answers.{bench_after, reactions}
-use Rattle.workbench.specs.Bench.{Bench, empty_bench}
-use Rattle.workbench.specs.Reaction.{Reaction, closing, reacts}
+use Rattle.timelines.specs.Bench.{Bench, empty_bench}
+use Rattle.timelines.specs.Reaction.{Reaction, closing, reacts}
 use Rattle.retro_cli.specs.Accepted.{WhatIsWrittenIsAccepted}
 use Rattle.retro_cli.specs.Events.{events_among}
 use Rattle.retro_cli.specs.Output.{output}

@@ -1,11 +1,11 @@
 use Rattle.std.proofs.Common.{◌≡◌, true, false}
 use Rattle.script_gen.specs.Coming.{GivesNext}
-use Rattle.workbench.specs.Reaction.{reacts_to}
+use Rattle.timelines.specs.Reaction.{reacts_to}
 use Rattle.retro_cli.proofs.Summing.{counts_all, counts_next, state_is}
 use Rattle.retro_cli.proofs.generated.count_refusals.Goals as goal
 
 pub loop-answer-preserved : goal.loop-answer-preserved
-loop-answer-preserved g c =
+loop-answer-preserved c =
     let gives : GivesNext c.loop-answer.generator c.next_line.new.self c.next_line.new.out true = rw c.if-branch.true at c.in_ok-next_line.ensures.ok in
     let reacted : reacts_to c.loop-answer.bench.bench c.next_line.new.out false
     ≡ record { bench = c.line_into.new.self.bench; answer = c.line_into.new.answer; refused = c.in_ok-is_refused.is_refused } =
@@ -18,14 +18,14 @@ loop-answer-preserved g c =
     }
 
 pub returns-clause-bench : goal.returns-clause-bench
-returns-clause-bench g c =
+returns-clause-bench c =
     let gives : GivesNext c.loop-answer.generator c.next_line.new.self c.next_line.new.out false = rw c.if-branch.false at c.in_ok-next_line.ensures.ok in
     state_is c.loop-answer.bench _ c.loop-answer.invariant.unspent
     (counts_all c.args.bench.now.bench c.loop-answer.bench.bench c.args.generator.now c.loop-answer.generator c.next_line.new.self c.loop-answer.refused
     c.next_line.new.out gives c.loop-answer.invariant.counts).0
 
 pub returns-clause-refused : goal.returns-clause-refused
-returns-clause-refused g c =
+returns-clause-refused c =
     let gives : GivesNext c.loop-answer.generator c.next_line.new.self c.next_line.new.out false = rw c.if-branch.false at c.in_ok-next_line.ensures.ok in
     (counts_all c.args.bench.now.bench c.loop-answer.bench.bench c.args.generator.now c.loop-answer.generator c.next_line.new.self c.loop-answer.refused
     c.next_line.new.out gives c.loop-answer.invariant.counts).1

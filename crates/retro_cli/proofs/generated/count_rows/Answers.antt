@@ -6,4 +6,4 @@ use Rattle.retro_cli.proofs.Summing.{generated_is_name}
 use Rattle.retro_cli.proofs.generated.count_rows.Goals as goal
 
 pub returns-in-None : goal.returns-in-None
-returns-in-None g c = absurd (some_is_not_none {x = generated_name} (sym generated_is_name ∙ sym c.read.ensures ∙ c.in-None.is))
+returns-in-None c = absurd (some_is_not_none {x = generated_name} (sym generated_is_name ∙ sym c.read.ensures ∙ c.in-None.is))

@@ -1,17 +1,17 @@
 use Rattle.std.proofs.Common.{◌≡◌, false, refl, arith}
 use Rattle.script_gen.specs.Script.{generated}
 use Rattle.workbench.specs.Answers.{bench_after}
-use Rattle.workbench.specs.Bench.{BenchState, empty_bench}
+use Rattle.timelines.specs.Bench.{BenchState, empty_bench}
 use Rattle.retro_cli.specs.Summary.{refusals}
 use Rattle.retro_cli.proofs.Summing.{length-generated, refusals-le}
 use Rattle.retro_cli.proofs.generated.sum_up.Goals as goal
 
 pub count_refusals-requires-clause-few : goal.count_refusals-requires-clause-few
-count_refusals-requires-clause-few g c =
+count_refusals-requires-clause-few c =
     rw c.new-generator.ensures (omega (arith, length-generated c.args.kind c.args.lines c.args.start, c.requires))
 
 pub returns : goal.returns
-returns g c =
+returns c =
     let script = generated c.args.kind c.args.lines c.args.start in
     let size = length-generated c.args.kind c.args.lines c.args.start in
     let refused : c.in_ok-refused.refused ≡ refusals empty_bench script = rw (c.new-bench.ensures, c.new-generator.ensures) at c.in_ok-refused.ensures.refused in

@@ -1,0 +1,10 @@
+pub mod Named
+pub mod AnsweredLine
+pub mod KeptTimelines
+pub mod TimelineEffects
+pub mod Memory
+pub mod OpenBlocks
+pub mod Loaded
+pub mod NamedChanges
+pub mod FateOutcomes
+pub mod Sizes

@@ -1,0 +1,44 @@
+use Rattle.std.proofs.Common.{◌<◌, ap, length}
+use Rattle.retro_base.specs.Limits.{most_rows, next_limit}
+use Rattle.timelines.specs.Bench.{named}
+use Rattle.timelines.proofs.Memory.{shift_memory, shifted_memory}
+use Rattle.timelines.proofs.TimelineEffects.{made_replays, shift_refused, shifted_told}
+use Rattle.timelines.proofs.named_timeline.NamedTimeline.shift_at.Goals as goal
+
+pub returns-in-Ok-clause-ok : goal.returns-in-Ok-clause-ok
+returns-in-Ok-clause-ok g c =
+    let done = c.in-Ok.ensures in
+    let fits = rw (← c.self.view_is) at c.in_default.ensures in
+    let room : length c.self.inside.session.rows < most_rows = fits.0.0 in
+    let number : c.self.inside.session.next < next_limit = fits.0.1 in
+    rw (← c.self.view_is)
+    (shifted_told c.tell_all.result (named c.self.inside.name c.self.inside.session) _ c.args.target c.args.place _ room number done.step (made_replays _ _ _ done.made)
+    (ap (named c.self.inside.name) done.session)
+    (rw (done.session, c.next-number.ensures.next) at (c.tell_all.ensures c.self.inside.session.rows (rw done.session done.made))))
+
+pub returns-in-Err-clause-ok : goal.returns-in-Err-clause-ok
+returns-in-Err-clause-ok g c =
+    let fits = rw (← c.self.view_is) at c.in_default.ensures in
+    let room : length c.self.inside.session.rows < most_rows = fits.0.0 in
+    let number : c.self.inside.session.next < next_limit = fits.0.1 in
+    rw (← c.self.view_is)
+    (shift_refused c.self.inside.name c.self.inside.session _ c.args.target c.args.place _ c.refused_by.result room number c.in-Err.ensures.err
+    c.refused_by.ensures)
+
+pub returns-in-Ok-clause-memory : goal.returns-in-Ok-clause-memory
+returns-in-Ok-clause-memory g c =
+    let done = c.in-Ok.ensures in
+    let fits = rw (← c.self.view_is) at c.in_default.ensures in
+    let room : length c.self.inside.session.rows < most_rows = fits.0.0 in
+    let number : c.self.inside.session.next < next_limit = fits.0.1 in
+    rw (← c.self.view_is)
+    (shifted_memory c.tell_all.result (named c.self.inside.name c.self.inside.session) c.args.target c.args.place _ room number done.step (made_replays _ _ _ done.made))
+
+pub returns-in-Err-clause-memory : goal.returns-in-Err-clause-memory
+returns-in-Err-clause-memory g c =
+    let fits = rw (← c.self.view_is) at c.in_default.ensures in
+    let room : length c.self.inside.session.rows < most_rows = fits.0.0 in
+    let number : c.self.inside.session.next < next_limit = fits.0.1 in
+    rw (← c.self.view_is)
+    (shift_memory c.self.inside.name c.self.inside.session _ c.args.target c.args.place _ c.refused_by.result room number c.in-Err.ensures.err
+    c.refused_by.ensures)

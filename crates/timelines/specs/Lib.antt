@@ -1,0 +1,11 @@
+pub use Rattle.retro_base.specs.Kind
+pub use Rattle.script_grammar.specs.Command
+pub mod Bench
+pub mod EditErrors
+pub mod Outcome
+pub mod Reported
+pub mod TimelineEffects
+pub mod Reaction
+pub mod AnsweredLine
+pub mod OpenBlocks
+pub mod ReactionLaws
