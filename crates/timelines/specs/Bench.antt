@@ -90,6 +90,10 @@ timeline_of name timelines = find (is_named name) timelines
 abbrev pub has_timeline : List ℕ → List NamedTimeline → Bool
 has_timeline name timelines = list_any (is_named name) timelines
 
+-- how many rows a timeline has
+abbrev pub row_count : NamedTimeline → ℕ
+row_count timeline = length timeline.rows
+
 -- how many items, pairs or entries a state holds
 abbrev pub size_of : State → ℕ
 size_of (items xs) = length xs

@@ -43,7 +43,7 @@ impl<R: AnyStructure> Model for Timelines<R> {
 }
 
 impl<R: AnyStructure> Timelines<R> {
-    ghost use Rattle.timelines.specs.Bench.{NamedTimeline, present_size};
+    ghost use Rattle.timelines.specs.Bench.{present_size, row_count};
 
     /// No timelines.
     pub fn new(alloc: Global) -> Timelines<R>
@@ -176,7 +176,7 @@ impl<R: AnyStructure> Timelines<R> {
 
     /// How many rows the timeline of this name has.
     pub fn rows_of(&self, name: &Name) -> Option<u32>
-        ensures { result ≡ option_map (λ (timeline : NamedTimeline). length timeline.rows) (timeline_of name.now self.now) }
+        ensures { result ≡ option_map row_count (timeline_of name.now self.now) }
     {
         match self.session(name) {
             Some(session) => Some(session.timeline().len()),
