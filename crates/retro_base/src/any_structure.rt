@@ -6,7 +6,8 @@ ghost use Rattle.retro_base.specs.declared.kind.Kind.TheVariants.{Pq};
 use crate::{Kind, Retro};
 use std::alloc::Global;
 
-/// One type over the structures of all kinds, of which one is made for each timeline. Who makes them by this trait knows none of them.
+/// One type over the structures of all kinds, of which one is made for each timeline. Who makes them by this trait need not know the
+/// types of these structures.
 pub trait AnyStructure: Retro + Drop {
     /// Whether it is the priority queue whose past is one product.
     ghost is_fused: { Self → Bool };

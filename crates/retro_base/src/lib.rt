@@ -19,8 +19,8 @@
 //! - Limits: `MAX_ROWS`, `MAX_NEXT`, which are those of `specs/Limits.antt`.
 //! - `kind`, `op`, `op_text`, `row`, `packed_row`, `rows`, `name`, `limits`: what a history is told in.
 //! - `question`, `listing`: what is asked, and answered.
-//! - `retro`, `partial`, `uncounted`: the two traits of structures, and the questions of the second with a counter of their own.
-//!   `any_structure`: how one is made of whatever kind a timeline has.
+//! - `retro`, `partial`, `any_structure`: the three traits of structures, the third of which is made of whatever kind a timeline has.
+//!   `uncounted`: the questions of the second with a counter of their own.
 //! - `plain_list`, `performed_rows`: the plain structure and performed rows, over `content` with its `line`, `pairs` and
 //!   `entries`; `counting`, `bridge_search`: the row that fails first, and what an edit of a priority queue changes.
 //! - `text`, `steps`, `memory`: what is written, what is counted, and the error of no memory. `laws`.
