@@ -5,11 +5,11 @@ use Rattle.retro_io.specs.declared.sink.Sink as sinks
 use Rattle.retro_io.specs.declared.source.Source as sources
 use Rattle.retro_io.specs.Outbox.{SendsOn, sink_of, waiting_of}
 use Rattle.followers.specs.Followers.{Reporting}
-use Rattle.retro_cli.specs.declared.status.Status.{Status}
-use Rattle.retro_cli.specs.Audience.{Audience, audience_of}
+use Rattle.retro_run.specs.declared.status.Status.{Status}
+use Rattle.retro_run.specs.Audience.{Audience, audience_of}
+use Rattle.retro_run.specs.Run.{is_write_fault}
 use Rattle.retro_cli.specs.FollowedProgram.{RunsFollowed}
 use Rattle.retro.specs.Followers.{followers_of}
-use Rattle.retro_cli.specs.Run.{is_write_fault}
 
 -- the followers, the source before and after, the sink before, the outbox after, the status, and the words
 pub record RunsGathered {S K : Type 0} (I : sources.Ghosts S) (O : sinks.Ghosts K) (G : sinks.Ghosts (Outbox K)) (followers : List Reporting)

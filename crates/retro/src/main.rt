@@ -9,11 +9,11 @@ ghost use Rattle.std.specs.Prelude.{◌≡◌, ◌≢◌, ◌<◌, ◌≤◌, �
 ghost use Rattle.std.specs.IoError.{error_kind};
 ghost use Rattle.std.specs.Process.{exit_status};
 ghost use Rattle.followers.specs.Totals.{tally};
+ghost use Rattle.retro_run.specs.Status.{code_of};
 ghost use Rattle.retro.specs.Followers.{followers_of, mirror, name_followed};
 ghost use Rattle.retro.specs.Gathered.{EndsARun, RunsGathered};
 ghost use Rattle.retro.specs.Words.{words_after_name, words_refused};
 ghost use Rattle.retro_cli.specs.FollowedProgram.{HasNoForm, most_followers};
-ghost use Rattle.retro_cli.specs.Status.{code_of};
 
 use followers::{Follower, Mirror, Tally};
 use retro_base::{Name, NoMemory};

@@ -7,19 +7,19 @@ use Rattle.retro_io.specs.BehindLaws.{direct, direct_sends, EndsWithFailedWrite-
 use Rattle.retro_io.specs.DirectSink.{reference_behind, sink_behind}
 use Rattle.retro_io.specs.Flushes.{no_sends}
 use Rattle.retro_base.specs.declared.kind.Kind.{Kind}
+use Rattle.retro_run.specs.declared.status.Status.{Status}
+use Rattle.retro_run.specs.declared.status.Status.TheVariants as statuses
+use Rattle.retro_run.specs.Audience.{Audience, followed}
+use Rattle.retro_run.specs.Delivery.{Arrives, IsCutOff}
+use Rattle.retro_run.specs.Ends.{Answers, EndsAfterLine, EndsAtSend, EndsAtSink, ScriptStands}
+use Rattle.retro_run.specs.Output.{Answering, alone}
+use Rattle.retro_run.specs.Run.{EndsBetweenLines, HasAnswered}
+use Rattle.retro_run.specs.Summary.{summary}
 use Rattle.retro_cli.specs.declared.form.Form.{Form}
 use Rattle.retro_cli.specs.declared.form.Form.TheVariants.{Run, Check, Gen}
-use Rattle.retro_cli.specs.declared.status.Status.{Status}
-use Rattle.retro_cli.specs.declared.status.Status.TheVariants as statuses
-use Rattle.retro_cli.specs.Audience.{Audience, followed}
-use Rattle.retro_cli.specs.Delivery.{Arrives, IsCutOff}
-use Rattle.retro_cli.specs.Ends.{Answers, EndsAfterLine, EndsAtSend, EndsAtSink, ScriptStands}
 use Rattle.retro_cli.specs.FollowedProgram.{EndsUnsentBy, RunsBy}
-use Rattle.retro_cli.specs.Output.{Answering, alone}
 use Rattle.retro_cli.specs.Program.{AnswersScript, JudgesEvidence, SumsUp}
 use Rattle.retro_cli.specs.Promise.{KeepsPromise}
-use Rattle.retro_cli.specs.Run.{EndsBetweenLines, HasAnswered}
-use Rattle.retro_cli.specs.Summary.{summary}
 
 no_form : (form : Form) → ◌≡◌ {A = Option Form} (Some form) None → ⊥
 no_form form e = cc

@@ -8,15 +8,15 @@ use Rattle.followers.specs.Followers.{Reporting}
 use Rattle.followers.specs.Mirrors.{held, mirror_text}
 use Rattle.timelines.specs.declared.outcome.Outcome.TheVariants.{Refused}
 use Rattle.timelines.specs.declared.outcome.Refusal.TheVariants as refusals
-use Rattle.workbench.specs.Answers.{reactions}
+use Rattle.timelines.specs.Answers.{reactions}
 use Rattle.timelines.specs.Bench.{Bench, NamedTimeline, OpenBlock, empty_bench}
 use Rattle.timelines.specs.Outcome.{refusal_text, reply_text}
 use Rattle.timelines.specs.Reaction.{Reaction, happens, reacts}
-use Rattle.retro_cli.specs.Audience.{Audience, after_events, audience_after, follower_at, follows, hears, mutes, turn, turn_with, without}
-use Rattle.retro_cli.specs.Events.{events, events_among, events_spelled}
+use Rattle.retro_run.specs.Audience.{Audience, after_events, audience_after, follower_at, follows, hears, mutes, turn, turn_with, without}
+use Rattle.retro_run.specs.Events.{events, events_among, events_spelled}
+use Rattle.retro_run.specs.MuteLaws.{refuses_mute}
 use Rattle.retro_cli.specs.Mirrored.{ChangesAloneHoldThePresent, HasHeard, MirrorsReportThePresent, WhoIsLeftHasHeardAll}
 use Rattle.retro_base.specs.Facts.{one_value}
-use Rattle.retro_cli.proofs.Muted.{refuses_mute}
 use Rattle.retro_cli.proofs.accepted.Printable.{refusal_line}
 use Rattle.retro_cli.proofs.accepted.ReadLines.{line_alone, no_event}
 use Rattle.retro_cli.proofs.accepted.Script.{events_from}

@@ -12,7 +12,7 @@ use Rattle.evidence_check.specs.Judgement.{Judge, first_cause, is_one_too_many, 
 use Rattle.evidence_check.specs.Laws.{AreReported, IsTrueOf, ReportedStays, TrueIsAccepted, timeless, EditsAreSpelled, EditsAreReported}
 use Rattle.evidence_check.specs.Truth.{cause_of, reported_edit, rows_after}
 use Rattle.followers.specs.MirrorLaws.{TellsEdits, MirrorsHoldThePresent}
-use Rattle.retro_cli.specs.Events.{events_spelled, events}
+use Rattle.retro_run.specs.Events.{events_spelled, events}
 use Rattle.retro_cli.proofs.accepted.Leads.{Leads}
 use Rattle.retro_cli.proofs.accepted.ReadLines.{Takes, no_event, with_event, lines_read}
 use Rattle.retro_cli.proofs.accepted.Telling.{itself, rows_of-with, Agrees}
@@ -30,7 +30,7 @@ use Rattle.retro_cli.proofs.accepted.Effects.{reported_rows}
 use Rattle.retro_cli.proofs.accepted.Timelines.{names_of, rows_by_name}
 use Rattle.followers.specs.Mirrors.{held_after}
 use Rattle.timeline_undo.specs.Back.{ShiftsCanBeMade}
-use Rattle.workbench.specs.Answers.{bench_after}
+use Rattle.timelines.specs.Answers.{bench_after}
 use Rattle.retro_cli.proofs.accepted.Script.{answers_of, nothing_kept, reads_answers}
 
 -- the rows that a judge was reported of a name

@@ -5,19 +5,20 @@ use Rattle.retro_io.specs.declared.sink.Sink as sinks
 use Rattle.retro_io.specs.declared.source.Source as sources
 use Rattle.retro_io.specs.Faults.{CountsFaults, HasRisen}
 use Rattle.retro_io.specs.Flushes.{Sends}
+use Rattle.retro_run.specs.declared.status.Status.{Status}
+use Rattle.retro_run.specs.declared.status.Status.TheVariants as statuses
+use Rattle.retro_run.specs.declared.stop.Stop.{Stop}
+use Rattle.retro_run.specs.declared.stop.Stop.TheVariants as stops
+use Rattle.retro_run.specs.Cause.{HasCause}
+use Rattle.retro_run.specs.Delivery.{IsCutOff, StandsAt}
+use Rattle.retro_run.specs.Judging.{is_refusal, judged_output, judgement_of}
+use Rattle.retro_run.specs.Run.{EndsBetweenLines, EndsWithoutFault, HasAnswered, MayBeTooLong, is_read_fault, is_write_fault, status_of}
+use Rattle.retro_run.specs.Stop.{status_after, stops_at_read, stops_at_write}
+use Rattle.retro_run.specs.Summary.{summary}
 use Rattle.retro_cli.specs.declared.form.Form.{Form}
 use Rattle.retro_base.specs.declared.kind.Kind.{Kind}
-use Rattle.retro_cli.specs.declared.status.Status.{Status}
-use Rattle.retro_cli.specs.declared.status.Status.TheVariants as statuses
-use Rattle.retro_cli.specs.declared.stop.Stop.{Stop}
-use Rattle.retro_cli.specs.declared.stop.Stop.TheVariants as stops
-use Rattle.retro_cli.specs.Delivery.{IsCutOff, StandsAt}
-use Rattle.retro_cli.specs.Judging.{is_refusal, judged_output, judgement_of}
 use Rattle.retro_cli.specs.Program.{JudgesEvidence, SumsUp}
-use Rattle.retro_cli.specs.Promise.{HasCause, KeepsPromise}
-use Rattle.retro_cli.specs.Run.{EndsBetweenLines, EndsWithoutFault, HasAnswered, MayBeTooLong, is_read_fault, is_write_fault, status_of}
-use Rattle.retro_cli.specs.Stop.{status_after, stops_at_read, stops_at_write}
-use Rattle.retro_cli.specs.Summary.{summary}
+use Rattle.retro_cli.specs.Promise.{KeepsPromise}
 
 -- how a run ended
 abbrev pub Outcome : Type 0

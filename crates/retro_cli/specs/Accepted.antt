@@ -3,7 +3,7 @@ use Rattle.std.specs.Prelude.{◌≡◌, ℕ, List}
 use Rattle.std.specs.List.{count_by}
 use Rattle.retro_io.specs.Lines.{lines}
 use Rattle.evidence_check.specs.Judgement.{accepted, is_evidence_line, judgement}
-use Rattle.retro_cli.specs.Output.{output}
+use Rattle.retro_run.specs.Output.{output}
 
 -- the lines that a script writes
 abbrev pub written : List ℕ → List (List ℕ)

@@ -3,10 +3,10 @@ use Rattle.std.specs.Prelude.{◌≡◌, ℕ, Bool, true, false, ◌⊎◌, List
 use Rattle.retro_io.specs.declared.sink.Sink as sinks
 use Rattle.retro_io.specs.declared.source.Source as sources
 use Rattle.retro_io.specs.Flushes.{Sends, no_sends}
+use Rattle.retro_run.specs.declared.status.Status.{Status}
+use Rattle.retro_run.specs.Audience.{Audience, followed}
+use Rattle.retro_run.specs.Ends.{EndsAtSink}
 use Rattle.retro_cli.specs.declared.form.Form.{Form}
-use Rattle.retro_cli.specs.declared.status.Status.{Status}
-use Rattle.retro_cli.specs.Audience.{Audience, followed}
-use Rattle.retro_cli.specs.Ends.{EndsAtSink}
 use Rattle.retro_cli.specs.Forms.{form_of, is_follow}
 use Rattle.retro_cli.specs.Program.{AnswersScript, EndsUnsent, Runs}
 use Rattle.retro_cli.specs.Promise.{KeepsPromise}

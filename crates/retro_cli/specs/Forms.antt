@@ -4,12 +4,9 @@ use Rattle.std.specs.Str.{bytes_eq}
 use Rattle.retro_base.specs.Name.{name_of}
 use Rattle.script_grammar.specs.Command.{kind_of_word}
 use Rattle.script_grammar.specs.Numbers.{natural_up_to}
+use Rattle.retro_run.specs.Summary.{most_generated}
 use Rattle.retro_cli.specs.declared.form.Form.{Form}
 use Rattle.retro_cli.specs.declared.form.Form.TheVariants.{Run, Check, Gen}
-
--- the most lines that a generated script has after its first one
-abbrev pub most_generated : ℕ
-most_generated = 1000000
 
 -- `run`, or `check`
 abbrev pub form_of_word : List ℕ → Option Form

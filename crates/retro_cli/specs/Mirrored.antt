@@ -9,10 +9,10 @@ use Rattle.retro_base.specs.Bridges.{survivors}
 use Rattle.evidence.specs.declared.evidence.Evidence.{Evidence}
 use Rattle.followers.specs.Followers.{Reporting}
 use Rattle.followers.specs.Mirrors.{held, mirror_text}
-use Rattle.workbench.specs.Answers.{bench_after}
+use Rattle.timelines.specs.Answers.{bench_after}
 use Rattle.timelines.specs.Bench.{Bench, NamedTimeline, empty_bench, timeline_of}
-use Rattle.retro_cli.specs.Audience.{Audience, after_events, audience_after, follower_at}
-use Rattle.retro_cli.specs.Events.{events}
+use Rattle.retro_run.specs.Audience.{Audience, after_events, audience_after, follower_at}
+use Rattle.retro_run.specs.Events.{events}
 
 -- the entries of the present of rows: a priority queue has them, and no other kind
 abbrev pub present_entries : Kind → List Row → List Entry

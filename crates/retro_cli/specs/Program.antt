@@ -4,18 +4,18 @@ use Rattle.retro_base.specs.declared.kind.Kind.{Kind}
 use Rattle.retro_io.specs.declared.sink.Sink as sinks
 use Rattle.retro_io.specs.declared.source.Source as sources
 use Rattle.retro_io.specs.Flushes.{Sends, no_sends}
+use Rattle.retro_run.specs.declared.status.Status.{Status}
+use Rattle.retro_run.specs.declared.status.Status.TheVariants as statuses
+use Rattle.retro_run.specs.Delivery.{Arrives, IsCutOff}
+use Rattle.retro_run.specs.Ends.{EndsAtSink, ScriptStands}
+use Rattle.retro_run.specs.Judging.{is_refusal, judged_output, judgement_of}
+use Rattle.retro_run.specs.Output.{Answering, alone}
+use Rattle.retro_run.specs.Run.{AppendsWholePrefix, EndsBetweenLines, HasAnswered, status_of}
+use Rattle.retro_run.specs.Summary.{summary}
 use Rattle.retro_cli.specs.declared.form.Form.{Form}
 use Rattle.retro_cli.specs.declared.form.Form.TheVariants.{Run, Check, Gen}
-use Rattle.retro_cli.specs.declared.status.Status.{Status}
-use Rattle.retro_cli.specs.declared.status.Status.TheVariants as statuses
-use Rattle.retro_cli.specs.Delivery.{Arrives, IsCutOff}
-use Rattle.retro_cli.specs.Ends.{EndsAtSink, ScriptStands}
 use Rattle.retro_cli.specs.Forms.{form_of}
-use Rattle.retro_cli.specs.Judging.{is_refusal, judged_output, judgement_of}
-use Rattle.retro_cli.specs.Output.{Answering, alone}
 use Rattle.retro_cli.specs.Promise.{KeepsPromise}
-use Rattle.retro_cli.specs.Run.{AppendsWholePrefix, EndsBetweenLines, HasAnswered, status_of}
-use Rattle.retro_cli.specs.Summary.{summary}
 
 -- what a send does, the source before and after, the sink before and after, and the status
 module _ {S K : Type 0} (I : sources.Ghosts S) (O : sinks.Ghosts K) (sends : Sends K) (source source' : S) (sink sink' : K) (status : Status) where

@@ -2,22 +2,20 @@
 
 ghost use Rattle.std.specs.Prelude.{◌≡◌, ◌≤◌, [], false, length, map};
 ghost use Rattle.retro_io.specs.Flushes.{no_sends};
-ghost use Rattle.retro_cli.specs.Audience.{audience_of};
+ghost use Rattle.retro_run.specs.Audience.{audience_of};
+ghost use Rattle.retro_run.specs.Run.{is_write_fault};
+ghost use Rattle.retro_run.specs.Stop.{status_after};
 ghost use Rattle.retro_cli.specs.FollowedProgram.{EndsUnsentBy, RunsFollowed, most_followers};
 ghost use Rattle.retro_cli.specs.Forms.{form_of, is_follow};
 ghost use Rattle.retro_cli.specs.Program.{EndsUnsent, RunsAlone};
-ghost use Rattle.retro_cli.specs.Run.{is_write_fault};
-ghost use Rattle.retro_cli.specs.Stop.{status_after};
 
-use crate::check::run_check;
-use crate::followed::{follow_from_start, follow_script};
+use crate::Words;
 use crate::form::{Form, form_of, is_follow};
-use crate::generated::run_generated;
-use crate::stop::Stop;
-use crate::{Status, Words};
 use followers::Follower;
 use retro_io::{DirectSink, SendingSink, Sink, Source};
+use retro_run::{Status, Stop, follow_from_start, run_check, run_generated, run_script};
 use std::alloc::Global;
+use workbench::Bench;
 
 /// Runs the program. With the word `run` it reads a script from the source and writes the answer to each line to the
 /// sink, before it reads the next one. With `check` it reads lines of evidence and writes their judgement; with
@@ -78,7 +76,7 @@ pub fn run_sending<S: Source, K: SendingSink>(
     ensures sent { K.waiting sink.old ≡ [] → is_write_fault result ≡ false → K.waiting sink.new ≡ [] }
 {
     if is_follow(words) {
-        status_after(follow_from_start(alloc, source, followers, sink))
+        status_after(follow_from_start::<Bench, _, _>(alloc, source, followers, sink))
     } else {
         run_by_form(alloc, words, source, sink)
     }
@@ -95,10 +93,10 @@ fn run_by_form<S: Source, K: SendingSink>(
     ensures sent { K.waiting sink.old ≡ [] → is_write_fault result ≡ false → K.waiting sink.new ≡ [] }
 {
     match form_of(words) {
-        Some(Form::Run) => status_after(follow_script(alloc, source, &mut [], sink)),
+        Some(Form::Run) => status_after(run_script::<Bench, _, _>(alloc, source, sink)),
         Some(Form::Check) => status_after(run_check(alloc, source, sink)),
         Some(Form::Gen { kind, lines, start }) => {
-            status_after(run_generated(alloc, kind, lines, start, sink))
+            status_after(run_generated::<Bench, _>(alloc, kind, lines, start, sink))
         }
         None => Status::Words,
     }

@@ -9,3 +9,4 @@ pub mod Reaction
 pub mod AnsweredLine
 pub mod OpenBlocks
 pub mod ReactionLaws
+pub mod Answers

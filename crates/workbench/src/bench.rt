@@ -12,7 +12,7 @@ use script_grammar::{Command, LineError, is_end, read_line};
 use std::alloc::Global;
 use std::marker::Model;
 use timeline_undo::Session;
-use timelines::{OpenBlock, Timelines};
+use timelines::{AnyBench, OpenBlock, Timelines};
 
 /// What a line is answered.
 #[derive(Drop)]
@@ -78,36 +78,6 @@ impl Bench {
         Ok(Reply { text, refused })
     }
 
-    /// Does what `line` does. The lines that answer take the place of what `answer` holds, and the result is whether the
-    /// line was refused. After `NoMemory` nothing is known of what `answer` holds.
-    pub fn line_into(
-        &mut self,
-        line: &[u8],
-        long: bool,
-        answer: &mut Text,
-    ) -> Result<bool, NoMemory>
-        requires within { length line.now ≤ longest_line }
-        requires full { IsTrue long → length line.now ≡ longest_line }
-        requires unspent { self.old.spent ≡ false }
-        ensures reacts { IfOk result (λ refused. reacts_to self.old.bench line.now long
-            ≡ record { bench = self.new.bench; answer = answer.new; refused = refused }) }
-        ensures keeps { IfOk result (λ refused. refused ≡ true → self.new.bench ≡ without_block self.old.bench) }
-        ensures spent { self.new.spent ≡ is_err result }
-    {
-        answer.clear();
-        let refused = if self.block.is_none() {
-            let command = read_line(line, long);
-            self.begin_block(&command);
-            self.timelines.obey(&command, answer)
-        } else if !long && is_end(line) {
-            self.close(true, answer)
-        } else {
-            self.take(line, long)
-        };
-        self.spent = refused.is_err();
-        refused
-    }
-
     /// Closes the block that is being read, as the end of the input does. Without one nothing is answered.
     pub fn end(&mut self) -> Result<Reply, NoMemory>
         requires { self.old.spent ≡ false }
@@ -121,23 +91,6 @@ impl Bench {
         let mut text = Text::new(self.alloc);
         let refused = self.end_into(&mut text)?;
         Ok(Reply { text, refused })
-    }
-
-    /// Does what `end` does. The lines that answer take the place of what `answer` holds, and the result is whether the
-    /// block was refused. After `NoMemory` nothing is known of what `answer` holds.
-    pub fn end_into(&mut self, answer: &mut Text) -> Result<bool, NoMemory>
-        requires { self.old.spent ≡ false }
-        ensures reacts { IfOk result (λ refused. closing self.old.bench
-            ≡ record { bench = self.new.bench; answer = answer.new; refused = refused }) }
-        ensures keeps { IfOk result (λ refused. refused ≡ true → self.new.bench ≡ without_block self.old.bench) }
-        ensures spent { self.new.spent ≡ is_err result }
-        ensures err { OnErr result ((self.new.bench.timelines ≡ self.old.bench.timelines)
-            ⊎ (self.new.bench.timelines ≡ (closing self.old.bench).bench.timelines)) }
-    {
-        answer.clear();
-        let refused = self.close(false, answer);
-        self.spent = refused.is_err();
-        refused
     }
 
     /// Whether a block is being read.
@@ -223,5 +176,47 @@ impl Bench {
             unclosed.take(line, long)?;
         }
         Ok(false)
+    }
+}
+
+impl AnyBench for Bench {
+    ghost state = { λ state. state };
+
+    fn empty(alloc: Global) -> Bench {
+        Bench::new(alloc)
+    }
+
+    fn line_into(&mut self, line: &[u8], long: bool, answer: &mut Text) -> Result<bool, NoMemory> {
+        answer.clear();
+        let refused = if self.block.is_none() {
+            let command = read_line(line, long);
+            self.begin_block(&command);
+            self.timelines.obey(&command, answer)
+        } else if !long && is_end(line) {
+            self.close(true, answer)
+        } else {
+            self.take(line, long)
+        };
+        self.spent = refused.is_err();
+        refused
+    }
+
+    fn end_into(&mut self, answer: &mut Text) -> Result<bool, NoMemory> {
+        answer.clear();
+        let refused = self.close(false, answer);
+        self.spent = refused.is_err();
+        refused
+    }
+
+    fn in_block(&self) -> bool {
+        Bench::in_block(self)
+    }
+
+    fn rows_of(&self, name: &Name) -> Option<u32> {
+        Bench::rows_of(self, name)
+    }
+
+    fn size_of(&self, name: &Name) -> Option<u32> {
+        Bench::size_of(self, name)
     }
 }

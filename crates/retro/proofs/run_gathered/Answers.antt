@@ -3,7 +3,7 @@
 use Rattle.std.proofs.Common.{◌≡◌, [], ◌∷◌, ◌++◌, refl, sym, ap, ◌∙◌, map}
 use Rattle.followers.specs.Mirrors.{held_after, mirror_text}
 use Rattle.followers.specs.Totals.{tally, totals_after, totals_text}
-use Rattle.retro_cli.specs.Audience.{audience_of}
+use Rattle.retro_run.specs.Audience.{audience_of}
 use Rattle.retro.specs.Followers.{followers_of, mirror, with_mirror}
 use Rattle.retro.proofs.Waiting.{all_is_in}
 use Rattle.retro.proofs.run_gathered.OwnLists.{at-1-1, at-1-2, own-1}

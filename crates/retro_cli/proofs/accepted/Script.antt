@@ -9,12 +9,12 @@ use Rattle.evidence.specs.Laws.{LinesAreShort, PrintedReadsBack}
 use Rattle.evidence_check.specs.Judgement.{Judge, nothing_reported}
 use Rattle.evidence_check.specs.Laws.{EditsAreSpelled, EditsAreReported}
 use Rattle.timeline_undo.specs.Back.{ShiftsCanBeMade}
-use Rattle.workbench.specs.Answers.{bench_after, reactions}
+use Rattle.timelines.specs.Answers.{bench_after, reactions}
 use Rattle.timelines.specs.Bench.{Bench, empty_bench}
 use Rattle.timelines.specs.Reaction.{Reaction, closing, reacts}
+use Rattle.retro_run.specs.Events.{events_among}
+use Rattle.retro_run.specs.Output.{output}
 use Rattle.retro_cli.specs.Accepted.{WhatIsWrittenIsAccepted}
-use Rattle.retro_cli.specs.Events.{events_among}
-use Rattle.retro_cli.specs.Output.{output}
 use Rattle.retro_cli.proofs.accepted.Benches.{IsToldOf, StaysKept, ends_kept, happens_kept}
 use Rattle.retro_cli.proofs.accepted.ReadLines.{Reads, events-append, reads-append, reads_nothing, reads_whole}
 

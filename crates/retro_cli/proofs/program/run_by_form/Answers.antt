@@ -1,12 +1,9 @@
 -- The promise is kept by how the script was answered, which nobody follows, the evidence judged, or the generated script summed up.
-use Rattle.std.proofs.Common.{◌≡◌, ◌≤◌, ◌∙◌, ℕ, List, [], Some, ap, arith, refl, subst, sym}
+use Rattle.std.proofs.Common.{◌≡◌, ◌≤◌, ◌∙◌, ℕ, List, Some, ap, arith, refl, sym}
 use Rattle.retro_base.specs.declared.kind.Kind.{Kind}
+use Rattle.retro_run.specs.Summary.{most_generated}
 use Rattle.retro_cli.specs.declared.form.Form.TheVariants.{Gen}
-use Rattle.retro_cli.specs.Forms.{form_of, generation, most_generated}
-use Rattle.retro_cli.specs.Program.{AnswersScript}
-use Rattle.retro_cli.specs.Stop.{status_after}
-use Rattle.retro_cli.proofs.Reactions.{nobody_follows}
-use Rattle.retro_cli.proofs.Reported.{prefix_that_stands}
+use Rattle.retro_cli.specs.Forms.{form_of, generation}
 use Rattle.retro_cli.proofs.Statuses.{cause_at_sink, judges_evidence, keeps_promise, promise_of_none, sums_up}
 use Rattle.retro_cli.proofs.program.run_by_form.Goals as goal
 
@@ -24,14 +21,8 @@ run_generated-requires g c =
 pub returns-in-Some-Run-clause-promise : goal.returns-in-Some-Run-clause-promise
 returns-in-Some-Run-clause-promise g c =
     rw (← c.form_of.ensures, c.in-Some-Run.is, c.in-Some-Run.field-0-is, c.status_after.ensures)
-    (keeps_promise g.S.Source g.K.Sink _ _ _ _ c.follow_script.result _ _ _ c.follow_script.ensures.cause
-    (subst (λ a. AnswersScript g.S.Source g.K.Sink g.K.SendingSink.sends c.args.source.now c.follow_script.new.source c.args.sink.now c.follow_script.new.sink (status_after c.follow_script.result) a)
-    nobody_follows
-    record {
-      prefix = prefix_that_stands g.S.Source g.K.Sink g.K.SendingSink.sends [] _ _ _ _ _ c.follow_script.ensures.stands;
-      stands = c.follow_script.ensures.stands;
-    })
-    (λ none. cc))
+    (keeps_promise g.S.Source g.K.Sink _ _ _ _ c.run_script.result _ _ _ c.run_script.ensures.cause
+    record { prefix = c.run_script.ensures.prefix; stands = c.run_script.ensures.stands } (λ none. cc))
 
 pub returns-in-Some-Check-clause-promise : goal.returns-in-Some-Check-clause-promise
 returns-in-Some-Check-clause-promise g c =

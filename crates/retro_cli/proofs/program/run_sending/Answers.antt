@@ -1,7 +1,6 @@
 -- The promise is kept by the followed run, or by the run.
 use Rattle.std.proofs.Common.{◌≡◌, true, false, sym, ◌∙◌}
 use Rattle.retro_cli.specs.Forms.{form_of, is_follow}
-use Rattle.retro_cli.proofs.Reported.{prefix_that_stands}
 use Rattle.retro_cli.proofs.Statuses.{keeps_promise, promise_unfollowed}
 use Rattle.retro_cli.proofs.program.run_sending.Goals as goal
 
@@ -11,7 +10,7 @@ returns-then-is_follow-clause-promise g c =
     rw (yes, c.status_after.ensures)
     (keeps_promise g.S.Source g.K.Sink _ _ _ _ c.follow_from_start.result _ _ _ c.follow_from_start.ensures.cause
     record {
-      prefix = prefix_that_stands g.S.Source g.K.Sink g.K.SendingSink.sends _ _ _ _ _ _ c.follow_from_start.ensures.stands;
+      prefix = c.follow_from_start.ensures.prefix;
       stands = c.follow_from_start.ensures.stands;
     }
     (λ none. let wrong = none.0 in cc))

@@ -1,0 +1,15 @@
+pub mod Alone
+pub mod AnswerLines
+pub mod Causes
+pub mod Ends
+pub mod GoesOn
+pub mod Handed
+pub mod Judged
+pub mod Muted
+pub mod Prefixes
+pub mod Reactions
+pub mod ReadSoFar
+pub mod Reported
+pub mod Shown
+pub mod Summing
+pub mod WholeLines

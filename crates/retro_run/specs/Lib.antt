@@ -1,0 +1,15 @@
+pub use Rattle.timelines.specs.Answers
+pub use Rattle.timelines.specs.Reaction
+pub mod Audience
+pub mod Cause
+pub mod Delivery
+pub mod Ends
+pub mod Events
+pub mod Judging
+pub mod MuteLaws
+pub mod OutOfMemory
+pub mod Output
+pub mod Run
+pub mod Status
+pub mod Stop
+pub mod Summary

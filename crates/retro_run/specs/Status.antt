@@ -1,0 +1,14 @@
+-- How a run of the program ended.
+use Rattle.std.specs.Prelude.{ℕ}
+use Rattle.retro_run.specs.declared.status.Status.{Status}
+use Rattle.retro_run.specs.declared.status.Status.TheVariants.{Done, Refused, Words, ReadFault, WriteFault, NoMemory, TooLong}
+
+-- the exit status of the process
+abbrev pub code_of : Status → ℕ
+code_of Done = 0
+code_of Refused = 1
+code_of Words = 2
+code_of ReadFault = 3
+code_of WriteFault = 4
+code_of NoMemory = 5
+code_of TooLong = 6
