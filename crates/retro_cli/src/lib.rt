@@ -3,8 +3,9 @@
 //!
 //! `run` carries the theorem of the program (`specs/Promise.antt`), by the form of the words of its command line
 //! (`specs/Program.antt`). Where it ends with 0 or 1, the input was read to its end, and exactly the output of the script
-//! was appended, or the judgement of its lines. Each other status has its cause in a clause, so that without a fault every input is
-//! answered, as long as memory lasts. The loops are those of `retro_run`, over the bench of `workbench`.
+//! was appended, or the judgement of its lines; or the sum of a generated one, for which nothing is read. Each other status but out of
+//! memory has its cause in a clause, so that without a fault every input is answered, as long as memory lasts. The loops are those of
+//! `retro_run`, over the bench of `workbench`.
 //!
 //! Over a sink at which bytes may wait, an outbox, the top call is `run_sending`. `run_followed` is the top call with followers
 //! (`specs/FollowedProgram.antt`): with the word `follow` it answers a script, hands the followers the events among the answers, and

@@ -1,4 +1,4 @@
--- How a run ended has its cause in the streams.
+-- How a run ended has its cause in the streams, unless it is out of memory.
 use Rattle.std.specs.Prelude.{◌≡◌, ◌↔◌, ◌<◌, ◌-◌, Bool, Result, Err}
 use Rattle.retro_base.specs.Limits.{most_bytes}
 use Rattle.retro_io.specs.declared.sink.Sink as sinks

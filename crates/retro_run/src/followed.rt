@@ -65,7 +65,7 @@ fn follow_script<B: AnyBench, S: Source, K: SendingSink>(
     }
 }
 
-/// Reads a script that nobody follows, and answers its lines: the bench alone does.
+/// Reads a script that nobody follows, and answers its lines by the bench alone. The result tells whether a line was refused.
 pub fn run_script<B: AnyBench, S: Source, K: SendingSink>(
     alloc: Global,
     source: &mut S,
@@ -80,7 +80,7 @@ pub fn run_script<B: AnyBench, S: Source, K: SendingSink>(
     follow_script::<B, _, _>(alloc, source, &mut [], sink)
 }
 
-/// Gives the followers their numbers, and follows a script with them.
+/// Gives the followers their numbers, reads a script, answers its lines and reports. The result tells whether a line was refused.
 pub fn follow_from_start<B: AnyBench, S: Source, K: SendingSink>(
     alloc: Global,
     source: &mut S,

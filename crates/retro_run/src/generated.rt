@@ -110,7 +110,7 @@ fn sum_up<B: AnyBench>(
     })
 }
 
-/// Answers a generated script, and writes what it comes to. Nothing is read.
+/// Answers a generated script, and writes what it comes to. Nothing is read. The result is false, whatever was refused: the sum tells it.
 pub fn run_generated<B: AnyBench, K: SendingSink>(
     alloc: Global,
     kind: Kind,

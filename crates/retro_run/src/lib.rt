@@ -3,8 +3,9 @@
 //!
 //! Which bench answers the lines is left open: it is any that meets `AnyBench` of `timelines`. The output of a script is defined in
 //! `specs/Output.antt` over the whole list of its lines, by what a bench makes of one line after another; the loop only follows it. A run
-//! ends with whether a line was refused, or early with a `Stop`, and each `Stop` has its cause in a clause. What stands in the sink then
-//! is said by `specs/Ends.antt` of a script, and by `specs/Delivery.antt` of the other two.
+//! ends with whether a line was refused, which of a generated script its sum says instead, or early with a `Stop`, and each `Stop` but
+//! `NoMemory` has its cause in a clause. What stands in the sink then is said by `specs/Ends.antt` of a script, and by
+//! `specs/Delivery.antt` of the other two.
 //!
 //! The lines and the faults are those of `retro_io`, what becomes of a line is said by `timelines`, and whether evidence is true
 //! by `evidence_check`, which shares no code with it: this crate holds nothing but the loops between them.
@@ -18,7 +19,7 @@
 //! more; the others keep their numbers.
 //!
 //! - `run_script`, `follow_from_start`, `run_check` and `run_generated` are the runs. `Stop` is why one ends early, `Status` how the program
-//!   ends after it.
+//!   then ends.
 //! - `script`, `sent_reader`: a script is answered, line by line. `follow`: what followers are handed, and their reports.
 //!   `mute`: who is left, and the line that lets one go. `followed`: a whole run of a script, with followers or without.
 //! - `check`, `judging`: evidence is judged, up to the first line that is refused.

@@ -8,8 +8,8 @@
 //! - `Timelines::obey` does what a command asks for and appends the lines that answer it, by `specs/Reaction.antt`; `Timelines::close`
 //!   closes an `OpenBlock`, the block that is being read, whose rows become a timeline. An `Outcome` is what a close comes to.
 //! - `timelines`, `named_timeline`: all timelines, and one of them; `commands`, `edits`, `questions`: what can be done to one.
-//!   `any_bench`: what answers lines. `loading`: one that a block makes. `open_block`: the block that is read. `position`: where a spot is. `outcome`, `reported`,
-//!   `evidence_lines`: what a line is answered.
+//!   `loading`: one that a block makes. `open_block`: the block that is read. `position`: where a spot is. `outcome`, `reported`,
+//!   `evidence_lines`: what a line is answered. `any_bench`: the trait of what answers lines.
 #![tactic(auto)]
 
 mod any_bench;

@@ -180,6 +180,7 @@ impl Bench {
 }
 
 impl AnyBench for Bench {
+    // The bench as contracts see it.
     ghost state = { λ state. state };
 
     fn empty(alloc: Global) -> Bench {

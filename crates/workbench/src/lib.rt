@@ -4,8 +4,8 @@
 //! to the block that is being read.
 //!
 //! - `Bench::line` does what a line asks for and gives the lines that answer it, by `specs/Reaction.antt` of `timelines`; `Bench::end` does
-//!   so at the end of the input. `line_into` and `end_into`, by which it meets `AnyBench` of `timelines`, write these lines into a text of
-//!   the caller, who may use it again for the next one.
+//!   so at the end of the input. `line_into` and `end_into`, calls of `AnyBench` of `timelines`, write these lines into a text of the
+//!   caller, who may use it again for the next one.
 //! - `bench`: the type and its calls. `laws`: a timeline's own lines are answered as they would be alone, and `pqf` for `pq` changes
 //!   no answer.
 #![tactic(auto)]
