@@ -204,51 +204,50 @@ impl Refusal {
         ensures { OnOk result (out.new ≡ out.old ++ refusal_text self.now) }
     {
         match self {
-            Refusal::Long => out.push_all(b"refused long")?,
-            Refusal::Syntax => out.push_all(b"refused syntax")?,
-            Refusal::NoTimeline { name } => {
-                out.push_all(b"refused no timeline ")?;
-                out.push_all(name.bytes())?;
-            }
-            Refusal::NameTaken => out.push_all(b"refused name taken")?,
+            Refusal::Long => out.push_all(b"refused long"),
+            Refusal::Syntax => out.push_all(b"refused syntax"),
+            Refusal::NameTaken => out.push_all(b"refused name taken"),
+            Refusal::Kind => out.push_all(b"refused kind"),
+            Refusal::Full => out.push_all(b"refused full"),
+            Refusal::Numbers => out.push_all(b"refused numbers"),
+            Refusal::NothingToUndo => out.push_all(b"refused nothing to undo"),
+            Refusal::NothingToRedo => out.push_all(b"refused nothing to redo"),
+            Refusal::Unfinished => out.push_all(b"refused unfinished"),
+            Refusal::Next => out.push_all(b"refused next"),
+            Refusal::Rows => out.push_all(b"refused rows"),
             Refusal::Timelines => {
                 out.push_all(b"refused timelines ")?;
-                out.push_number(MAX_TIMELINES)?;
+                out.push_number(MAX_TIMELINES)
             }
-            Refusal::Kind => out.push_all(b"refused kind")?,
+            Refusal::NoTimeline { name } => {
+                out.push_all(b"refused no timeline ")?;
+                out.push_all(name.bytes())
+            }
             Refusal::NoRow { number } => {
                 out.push_all(b"refused no row #")?;
-                out.push_number(*number)?;
+                out.push_number(*number)
             }
-            Refusal::Full => out.push_all(b"refused full")?,
-            Refusal::Numbers => out.push_all(b"refused numbers")?,
-            Refusal::NothingToUndo => out.push_all(b"refused nothing to undo")?,
-            Refusal::NothingToRedo => out.push_all(b"refused nothing to redo")?,
-            Refusal::Unfinished => out.push_all(b"refused unfinished")?,
-            Refusal::Next => out.push_all(b"refused next")?,
-            Refusal::Rows => out.push_all(b"refused rows")?,
             Refusal::NoItem { number } => {
                 out.push_all(b"refused no item #")?;
-                out.push_number(*number)?;
+                out.push_number(*number)
             }
             Refusal::NoFollower { number } => {
                 out.push_all(b"refused no follower ")?;
-                out.push_number(*number)?;
+                out.push_number(*number)
             }
             Refusal::RowLine { place, cause } => {
                 out.push_all(b"refused row ")?;
                 out.push_number(*place)?;
                 out.push_all(b" ")?;
-                out.push_all(cause_word(*cause))?;
+                out.push_all(cause_word(*cause))
             }
             Refusal::At { number, time } => {
                 out.push_all(b"refused at #")?;
                 out.push_number(*number)?;
                 out.push_all(b" ")?;
-                out.push_number(*time)?;
+                out.push_number(*time)
             }
         }
-        Ok(())
     }
 }
 
