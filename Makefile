@@ -2,8 +2,9 @@
 #
 #   make try      answers a first script in front of you within a minute or two, by a trial build: it proves nothing, and leaves
 #                 no program. SCRIPT=FILE for another one; the tool reads its input whole first, so none can be typed
-#   make run      the same by the proved program, which it builds first: all that it stands on is proved, an hour on a small machine
+#   make run      the same by the proved program, which it builds first: all that it stands on is proved, in half an hour or more
 #   make build    leaves the program at build/retro, so that `build/retro run < FILE` works on any script
+#   make libraries  proves all libraries side by side and keeps what came of it, which the daily work on a crate begins with
 #   make check    proves one crate over what was proved before: make check CRATE=retro_queue
 #   make unit     runs the tests of the crates by a trial build with checks, some ten minutes, and proves nothing
 #   make fmt      lays all sources out
@@ -13,7 +14,8 @@
 #   make bench    measures the program beside others and writes docs/MEASURED.md, in a quarter of an hour; needs
 #                 Python 3, and rustc for the others; QUICK=1 for a first look, which writes into build/
 #   make recipes  runs docs/RECIPES.md as it stands, and the client in Python with 100,000 lines
-#   make planted  outside the gate: tries the wrong bodies of tests/planted, which the prover must refuse; CRATE=NAME for those of one crate
+#   make planted  outside the gate, after make libraries: tries the wrong bodies of tests/planted, which the prover must refuse;
+#                 CRATE=NAME for those of one crate
 #   make integrations  outside the gate: what needs a browser, dask or PostgreSQL, each where it is there, and 1,000 kills of a journal's writer
 #   make hostile  outside the gate: forged evidence, drawn scripts and refused memory; needs Python 3 and cc
 
@@ -22,7 +24,7 @@ PREFIX ?= /usr/local
 
 SOURCES := $(shell find crates -name out -prune -o -type f \( -name '*.rt' -o -name '*.antt' \) -print) crates.txt
 
-.PHONY: run try build said check unit fmt install test bench planted hostile recipes integrations
+.PHONY: run try build said libraries check unit fmt install test bench planted hostile recipes integrations
 
 run: said build
 	@echo
@@ -43,11 +45,14 @@ try:
 build: build/retro
 
 said:
-	@echo "First all that the program stands on is proved and built, unless that was done: an hour on a small machine. \`make try\` proves nothing."
+	@echo "First all that the program stands on is proved and built, unless that was done: half an hour or more. \`make try\` proves nothing."
 
 # A program is built only once it is proved.
 build/retro: $(SOURCES)
 	@python3 .ci/build
+
+libraries:
+	@python3 .ci/libraries $(CRATE)
 
 check:
 	@cd crates/$(CRATE) && rt check
@@ -74,7 +79,7 @@ recipes: said build
 	@python3 tests/client.py build/retro
 	@python3 tests/recipes.py build/retro
 
-planted: said build
+planted: libraries
 	@python3 tests/planted.py $(CRATE)
 
 integrations: said build

@@ -2,7 +2,7 @@
 """python3 tests/planted.py [CRATE..]: wrong bodies that the prover refuses, tried crate by crate on a copy of the tree.
 
 A file of tests/planted/CRATE/ is one wrong body in the form of a must-fail edit. They stand outside the gate, where each crate with one such edit
-would be proved once more. The copy stands below build/ while this runs, over what was proved before, as `make run` leaves it; the edits of
+would be proved once more. The copy stands below build/ while this runs, over what was proved before, as `make libraries` leaves it; the edits of
 a crate are tried by the tool itself. Ends with how many were refused, how many passed, and how many could not be applied.
 """
 
