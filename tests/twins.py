@@ -4,10 +4,10 @@
     python3 tests/twins.py [--list]
 
 Two lemmas say the same where their statements differ in nothing but the names of what they bind. What a file defines for itself
-is told apart by the file. There are three reasons for such a group: all of it but one lemma stands inside other lemmas or in the proofs of single
-functions, from where nothing else can cite it; the lemmas stand in crates of which neither can cite the other, since a crate cites
-the `specs/` of those below it alone, and a page for two crates would cost more than a lemma of a few lines; or the group is named in `ALLOWED`. Without `--list` it prints one line
-with the number of each. It fails where a group has no reason.
+is told apart by the file. There are two reasons for such a group: all of it but one lemma stands inside other lemmas or in the
+proofs of single functions, from where nothing else can cite it; or the lemmas stand in crates of which neither can cite the other,
+since a crate cites the `specs/` of those below it alone, and a page for two crates would cost more than a lemma of a few lines.
+Without `--list` it prints one line with the number of each. It fails where a group has no reason.
 """
 
 import collections
@@ -20,9 +20,6 @@ ROOT = os.path.dirname(os.path.dirname(os.path.abspath(__file__)))
 NAMED = re.compile(r"^( *)(?:pub )?([^\s:(){}]+) : (.+)$")
 BOUND = re.compile(r"[({]([^\s(){}:,]+(?: [^\s(){}:,]+)*) : |λ ([^.()]+)\. ")
 WORD = re.compile(r"[^\s(){},;]+")
-ALLOWED = {
-    "same_by_order": "of pq_fusion, from before retro_base said it as `neither_before`: it goes where that crate is next proved anew",
-}
 INSIDE, APART = "inside another proof", "in crates apart"
 
 
@@ -100,7 +97,7 @@ def reason(places, stand):
         return INSIDE
     if not any(cites(one, other, stand) for one in outer for other in outer if one != other):
         return APART
-    return ALLOWED.get(places[0].split(" ")[1])
+    return None
 
 
 def main():
@@ -109,9 +106,8 @@ def main():
     for places, why in sorted(zip(twins, reasons), key=lambda pair: len(pair[0]), reverse=True):
         if "--list" in sys.argv[1:] or why is None:
             print("\n".join(places + ["  " + (why or "no reason: one of them could cite the other")]), end="\n\n")
-    print("%d statements stand more than once, with %d lemmas too many: %d inside another proof, %d in crates apart, %d named, %d without a reason" % (
-        len(twins), sum(map(len, twins)) - len(twins), reasons.count(INSIDE), reasons.count(APART),
-        sum(why in ALLOWED.values() for why in reasons), reasons.count(None)))
+    print("%d statements stand more than once, with %d lemmas too many: %d inside another proof, %d in crates apart, %d without a reason" % (
+        len(twins), sum(map(len, twins)) - len(twins), reasons.count(INSIDE), reasons.count(APART), reasons.count(None)))
     return 1 if None in reasons else 0
 
 

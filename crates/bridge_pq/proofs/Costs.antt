@@ -1,8 +1,8 @@
 -- Costs of calls one after another.
 use Rattle.std.proofs.Common.{◌≡◌, ℕ, ◌+◌, ◌≤◌, refl, arith}
-use Rattle.retro_base.specs.Digits.{digits}
-use Rattle.retro_base.specs.Visits.{VisitsWithin}
-use Rattle.retro_base.specs.VisitsLaws.{visits-add, digits-monotone}
+use Rattle.costs.specs.Digits.{digits}
+use Rattle.costs.specs.Visits.{VisitsWithin}
+use Rattle.costs.specs.VisitsLaws.{visits-add, digits-monotone}
 
 pub no_visit : (factor length steps : ℕ) → VisitsWithin factor length steps steps
 no_visit factor length steps = record { none_lost = omega arith; few = omega arith }

@@ -7,8 +7,8 @@ use Rattle.std.proofs.lemmas.List.{length-map, length-take-le, length-drop}
 use Rattle.std.proofs.Math.Nat.{add-mul, mul-le-mul_left}
 use Rattle.std.proofs.Math.Seq.{take-append_seam}
 use Rattle.weighted_tree.specs.Reads.{overwritten}
-use Rattle.retro_base.specs.Digits.{digits}
-use Rattle.retro_base.specs.Visits.{VisitsWithin}
+use Rattle.costs.specs.Digits.{digits}
+use Rattle.costs.specs.Visits.{VisitsWithin}
 use Rattle.retro_base.specs.declared.row.Entry.{Entry}
 use Rattle.retro_base.specs.declared.row.Row.{Row}
 use Rattle.retro_base.specs.declared.question.Answer.TheVariants.{Number}

@@ -1,6 +1,6 @@
 //! All entries that the rows of a queue add, in their order.
 ghost use Rattle.std.specs.Prelude.{◌≡◌, ◌<◌, length, slice_get, Some};
-ghost use Rattle.retro_base.specs.Visits.{VisitsWithin};
+ghost use Rattle.costs.specs.Visits.{VisitsWithin};
 ghost use Rattle.bridge_pq.specs.Bridged.{AreAdded};
 
 use crate::BridgeQueue;

@@ -6,7 +6,7 @@ ghost use Rattle.retro_base.specs.declared.kind.Kind.TheVariants.{Pq};
 ghost use Rattle.retro_base.specs.declared.row.Row.{Row};
 ghost use Rattle.retro_base.specs.Answers.{number_of, key_of, content};
 ghost use Rattle.retro_base.specs.Replay.{present};
-ghost use Rattle.retro_base.specs.Visits.{OpensCounter};
+ghost use Rattle.costs.specs.Visits.{OpensCounter};
 
 use crate::edit::{insert_adding, insert_taking, remove_dead, remove_survivor, remove_taking};
 use crate::entry_tree::{nth_present, size_of_present};

@@ -6,7 +6,7 @@ ghost use Rattle.retro_base.specs.Bridges.{survivors};
 ghost use Rattle.retro_base.specs.Carried.{IsPqEdit};
 ghost use Rattle.retro_base.specs.Edits.{add, cut, IsAccepted};
 ghost use Rattle.retro_base.specs.Limits.{most_rows};
-ghost use Rattle.retro_base.specs.Visits.{VisitsWithin};
+ghost use Rattle.costs.specs.Visits.{VisitsWithin};
 ghost use Rattle.retro_base.specs.Weights.{added_by};
 ghost use Rattle.retro_base.specs.declared.row.Row.{Row};
 ghost use Rattle.bridge_pq.specs.MarkedRows.{rows_of, AreMarked};

@@ -1,6 +1,6 @@
 //! What is left of the present of an earlier queue, in its order.
-ghost use Rattle.std.specs.Prelude.{◌≡◌, ◌+◌, ◌≤◌, ◌∷◌, length, drop, MatchOption};
-ghost use Rattle.retro_base.specs.Visits.{VisitsWithin};
+ghost use Rattle.std.specs.Prelude.{◌≡◌, ◌+◌, ◌∷◌, length, drop, MatchOption};
+ghost use Rattle.costs.specs.Visits.{VisitsWithin};
 ghost use Rattle.bridge_pq.specs.Gathered.{IsTaken};
 ghost use Rattle.bridge_pq.specs.MarkedEntries.{present_in};
 

@@ -8,7 +8,7 @@ ghost use Rattle.retro_base.specs.Changes.{IsPqChange};
 ghost use Rattle.retro_base.specs.Edits.{add, cut};
 ghost use Rattle.retro_base.specs.Replay.{IsValid};
 ghost use Rattle.retro_base.specs.Timeline.{IsReplayable};
-ghost use Rattle.retro_base.specs.Visits.{VisitsWithin};
+ghost use Rattle.costs.specs.Visits.{VisitsWithin};
 ghost use Rattle.retro_base.specs.Weights.{added_by};
 ghost use Rattle.bridge_pq.specs.Bridged.{IsBridged};
 ghost use Rattle.bridge_pq.specs.Flips.{Lacks};

@@ -3,7 +3,7 @@
 ghost use Rattle.std.specs.Prelude.{◌≡◌, pos, ◌^◌, ◌<◌, ◌≤◌, length, slice_get, Contains, true, false, None, MatchOption, OnOk, OnErr};
 ghost use Rattle.std.specs.List.{AllWithin};
 ghost use Rattle.retro_base.specs.State.{comes_before};
-ghost use Rattle.retro_base.specs.Visits.{VisitsWithin};
+ghost use Rattle.costs.specs.Visits.{VisitsWithin};
 ghost use Rattle.bridge_pq.specs.Gathered.{EndsAt};
 ghost use Rattle.bridge_pq.specs.MarkedEntries.{entries_in, present_in, Rise, put_marked, without_entry, marked_so};
 

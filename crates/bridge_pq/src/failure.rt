@@ -9,7 +9,7 @@ ghost use Rattle.retro_base.specs.Carried.{IsPqHistory};
 ghost use Rattle.retro_base.specs.Kind.{kind_of};
 ghost use Rattle.retro_base.specs.Limits.{most_rows};
 ghost use Rattle.retro_base.specs.Replay.{failure};
-ghost use Rattle.retro_base.specs.Visits.{VisitsWithin};
+ghost use Rattle.costs.specs.Visits.{VisitsWithin};
 ghost use Rattle.retro_base.specs.Weights.{added_by};
 ghost use Rattle.bridge_pq.specs.Bridged.{AddsAt};
 ghost use Rattle.bridge_pq.specs.MarkedRows.{rows_of, AreMarked};

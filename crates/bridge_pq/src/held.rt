@@ -2,7 +2,7 @@
 ghost use Rattle.std.specs.Prelude.{◌≡◌, ◌+◌, ◌*◌, ◌≤◌, ℕ, length, slice_get, OnOk};
 ghost use Rattle.retro_base.specs.Limits.{most_rows};
 ghost use Rattle.retro_base.specs.State.{with_entry};
-ghost use Rattle.retro_base.specs.Visits.{VisitsWithin};
+ghost use Rattle.costs.specs.Visits.{VisitsWithin};
 ghost use Rattle.bridge_pq.specs.Gathered.{fresh_first, IsTaken};
 ghost use Rattle.bridge_pq.specs.MarkedEntries.{entries_in, present_in, Rise};
 

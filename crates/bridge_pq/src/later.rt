@@ -6,7 +6,7 @@ ghost use Rattle.retro_base.specs.Answers.{answer_of, content, key_of, number_of
 ghost use Rattle.retro_base.specs.Bridges.{entries_at};
 ghost use Rattle.retro_base.specs.Limits.{most_rows};
 ghost use Rattle.retro_base.specs.State.{entries as holding};
-ghost use Rattle.retro_base.specs.Visits.{VisitsWithin};
+ghost use Rattle.costs.specs.Visits.{VisitsWithin};
 ghost use Rattle.bridge_pq.specs.Gathered.{additions, after_moves, moves_from, IsEarlier};
 ghost use Rattle.bridge_pq.specs.MarkedEntries.{entries_in, present_in, Rise};
 ghost use Rattle.bridge_pq.specs.MarkedRows.{rows_of};

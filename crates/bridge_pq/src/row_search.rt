@@ -5,7 +5,7 @@ ghost use Rattle.retro_base.specs.declared.row.Entry.{Entry};
 ghost use Rattle.retro_base.specs.Bridges.{survivors, last_bridge, first_bridge};
 ghost use Rattle.retro_base.specs.Carried.{IsPqHistory};
 ghost use Rattle.retro_base.specs.MarkedChange.{greatest_dead, least_survivor};
-ghost use Rattle.retro_base.specs.Visits.{VisitsWithin};
+ghost use Rattle.costs.specs.Visits.{VisitsWithin};
 ghost use Rattle.bridge_pq.specs.Bridged.{AddsAt, FindsRow};
 ghost use Rattle.bridge_pq.specs.MarkedRows.{rows_of, weights_of, AreMarked};
 ghost use Rattle.bridge_pq.specs.declared.marked_row.MarkedRow.{MarkedRow};

@@ -5,7 +5,7 @@ ghost use Rattle.retro_base.specs.Changes.{IsChange};
 ghost use Rattle.retro_base.specs.Edits.{add, cut};
 ghost use Rattle.retro_base.specs.Replay.{IsValid};
 ghost use Rattle.retro_base.specs.Timeline.{IsReplayable};
-ghost use Rattle.retro_base.specs.Visits.{OpensCounter};
+ghost use Rattle.costs.specs.Visits.{OpensCounter};
 ghost use Rattle.checkpoint_full.specs.Checkpoints.{after, place_of, with_row, without_row, CanFollow, CanLose, CanTake, HoldsFirstRows};
 
 use crate::snapshot::Snapshot;

@@ -9,7 +9,7 @@ ghost use Rattle.retro_base.specs.Kind.{kind_of};
 ghost use Rattle.retro_base.specs.Questions.{suits};
 ghost use Rattle.retro_base.specs.Replay.{failure, IsValid, present, state_at};
 ghost use Rattle.retro_base.specs.Timeline.{IsReplayable};
-ghost use Rattle.retro_base.specs.Visits.{OpensCounter, VisitsWithin};
+ghost use Rattle.costs.specs.Visits.{OpensCounter, VisitsWithin};
 ghost use Rattle.checkpoint_full.specs.Checkpoints.{after, first_of, place_of, CanTake, HoldsFirstRows};
 
 use retro_base::{

@@ -3,7 +3,7 @@
 //! between them and dropped again by turns.
 ghost use Rattle.std.specs.Prelude.{◌≡◌, ◌+◌, ◌-◌, ◌≤◌, ◌⊎◌, [], length, map, position, IfSome, IfOk};
 ghost use Rattle.std.specs.List.{AllByRecursion};
-ghost use Rattle.retro_base.specs.Visits.{OpensCounter};
+ghost use Rattle.costs.specs.Visits.{OpensCounter};
 ghost use Rattle.checkpoint_full.specs.Checkpoints.{first_of, place_of, stands_within, with_row, without_row, CanFollow, CanLose, HoldsFirstRows};
 ghost use Rattle.checkpoint_full.specs.Widths.{most_checkpoints};
 

@@ -10,7 +10,7 @@ ghost use Rattle.retro_base.specs.Edits.{add, cut};
 ghost use Rattle.retro_base.specs.Questions.{suits};
 ghost use Rattle.retro_base.specs.Replay.{IsValid, present, state_at};
 ghost use Rattle.retro_base.specs.Timeline.{IsReplayable};
-ghost use Rattle.retro_base.specs.Visits.{OpensCounter, VisitsWithin};
+ghost use Rattle.costs.specs.Visits.{OpensCounter, VisitsWithin};
 ghost use Rattle.checkpoint_full.specs.Rule.{FollowsRule};
 ghost use Rattle.pq_fusion.specs.Searches.{AskedWithin, SizedWithin};
 ghost use Rattle.engine.specs.Engine.{kind_inside, rows_inside, is_line, is_pq, is_fused, made_inside, seen_inside, width_inside, IsAsked, KeepsStructure};

@@ -7,7 +7,7 @@ use Rattle.std.proofs.lemmas.Bool.{eq-eqb, ne_eqb}
 use Rattle.fates.specs.declared.standing.Standing.{Standing}
 use Rattle.fates.specs.declared.standing.Standing.TheVariants.{AfterLesser}
 use Rattle.fates.specs.Holding.{NoneHas, AllBefore, StandsAfterLesser}
-use Rattle.fates.specs.Fates.{holds, numbered_op}
+use Rattle.retro_base.specs.Holders.{holds, numbered_op}
 use Rattle.fates.specs.Standings.{entry_after, without_least}
 use Rattle.fates.proofs.Held.{or_false, or_true_first, first_false, second_false}
 use Rattle.retro_base.specs.declared.op.Op.{Op}

@@ -11,7 +11,7 @@ use Rattle.std.proofs.lemmas.Map.Lookups.{exact_signed}
 use Rattle.fates.specs.declared.standing.Standing.{Standing}
 use Rattle.fates.specs.declared.standing.Standing.TheVariants.{AtKey}
 use Rattle.fates.specs.Holding.{NoneIs, IsOnlyAt, StandsAtKey}
-use Rattle.fates.specs.Fates.{holds, numbered_op}
+use Rattle.retro_base.specs.Holders.{holds, numbered_op}
 use Rattle.fates.specs.Standings.{pair_after}
 use Rattle.fates.proofs.Held.{other_number, or_false, or_true_first}
 use Rattle.retro_base.specs.declared.op.Op.{Op}

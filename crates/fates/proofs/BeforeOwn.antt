@@ -9,7 +9,7 @@ use Rattle.std.specs.Ordering.{int_cmp, int_eq, match_ordering, is_eq}
 use Rattle.std.proofs.lemmas.Map.Lookups.{exact_signed}
 use Rattle.std.proofs.lemmas.Bool.{eq-eqb}
 use Rattle.fates.specs.Holding.{Lacks, NoneHas, AllBefore, NoneIs, IsOnlyAt, StandsInLine, StandsAfterLesser, StandsAtKey}
-use Rattle.fates.specs.Fates.{numbered_op}
+use Rattle.retro_base.specs.Holders.{numbered_op}
 use Rattle.fates.specs.Standings.{is_lesser}
 use Rattle.fates.proofs.Held.{other_number, or_false, first_false, second_false, lacks_cons, lacks_tail, lacks_append, lacks_take}
 use Rattle.fates.proofs.AfterLessers.{none_cons, none_with}

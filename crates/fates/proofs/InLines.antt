@@ -4,7 +4,7 @@ use Rattle.std.specs.Option.{option_map}
 use Rattle.fates.specs.declared.standing.Standing.{Standing}
 use Rattle.fates.specs.declared.standing.Standing.TheVariants.{InLine}
 use Rattle.fates.specs.Holding.{Lacks, StandsInLine}
-use Rattle.fates.specs.Fates.{holds, numbered_op}
+use Rattle.retro_base.specs.Holders.{holds, numbered_op}
 use Rattle.fates.specs.Standings.{line_after, without_left, without_right}
 use Rattle.fates.proofs.Held.{other_number, lacks_cons, lacks_tail, lacks_append, lacks_take}
 use Rattle.retro_base.specs.declared.op.Op.{Op}

@@ -3,7 +3,7 @@ use Rattle.std.proofs.Common.{◌≡◌, ℕ, pos, zero, suc, true, List, [], �
 use Rattle.std.specs.List.{slice_get}
 use Rattle.std.specs.Option.{is_some}
 use Rattle.std.specs.Result.{result_err, result_unwrap_or}
-use Rattle.fates.specs.Fates.{numbered, holders}
+use Rattle.retro_base.specs.Holders.{numbered, holders}
 use Rattle.retro_base.specs.declared.kind.Kind.{Kind}
 use Rattle.retro_base.specs.declared.row.Row.{Row}
 use Rattle.retro_base.specs.PrefixLaws.{valid_take}

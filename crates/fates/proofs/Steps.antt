@@ -6,7 +6,7 @@ use Rattle.std.proofs.lemmas.Bool.{cases_lt}
 use Rattle.fates.specs.declared.standing.Standing.{Standing}
 use Rattle.fates.specs.declared.standing.Standing.TheVariants.{InLine, AtKey, AfterLesser}
 use Rattle.fates.specs.Holding.{Stands}
-use Rattle.fates.specs.Fates.{holders, holds, numbered, numbered_op}
+use Rattle.retro_base.specs.Holders.{holders, holds, numbered, numbered_op}
 use Rattle.fates.specs.Standings.{after_row, count_after, counts, standing_of, standing_by, line_after, entry_after, pair_after, without_left, without_right, without_least, IsUpTo}
 use Rattle.fates.proofs.Held.{is_held}
 use Rattle.fates.proofs.InLines.{LineGoes, line_goes}

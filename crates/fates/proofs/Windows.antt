@@ -4,7 +4,8 @@ use Rattle.std.specs.List.{fold, slice_get}
 use Rattle.std.proofs.Math.Seq.{drop-cons}
 use Rattle.std.proofs.lemmas.List.{drop_all, length-drop, length-take}
 use Rattle.fates.specs.declared.standing.Standing.{Standing}
-use Rattle.fates.specs.Fates.{holders, holds, IsTakenAt}
+use Rattle.fates.specs.Fates.{IsTakenAt}
+use Rattle.retro_base.specs.Holders.{holders, holds}
 use Rattle.fates.specs.Holding.{Stands}
 use Rattle.fates.specs.Standings.{IsUpTo, after_row, count_after}
 use Rattle.fates.proofs.Steps.{Ready, count_next, count_up, few_next, goes_so, gone_so, stands_next, there_next}

@@ -6,7 +6,7 @@ use Rattle.std.specs.Map.{lookup}
 use Rattle.std.specs.Ordering.{int_eq}
 use Rattle.fates.specs.declared.standing.Standing.{Standing}
 use Rattle.fates.specs.declared.standing.Standing.TheVariants.{InLine, AtKey, AfterLesser}
-use Rattle.fates.specs.Fates.{holders}
+use Rattle.retro_base.specs.Holders.{holders}
 use Rattle.fates.specs.Standings.{IsUpTo}
 use Rattle.retro_base.specs.declared.row.Entry.{Entry}
 use Rattle.retro_base.specs.declared.row.Row.{Row}

@@ -5,8 +5,8 @@
 //! entries stand before an entry. A row takes an item where nothing is left on the side from which it takes, a pair where it is on its key, an entry
 //! where no lesser one is left.
 //!
-//! The definition is `specs/Fates.antt`: the replay in which each row puts in its own number in place of its value. It holds of
-//! rows of one kind that replay whole.
+//! The definition is `specs/Fates.antt` over `Holders.antt` of `retro_base`: the replay in which each row puts in its own number in
+//! place of its value. It holds of rows of one kind that replay whole.
 //!
 //! - `laws`: how the number of entries that are at most a given one rises and falls along a replay.
 //! - `fate`: `Fate` and `fate_of`. Inside: `standing` (where something stands among what is there).

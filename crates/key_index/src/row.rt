@@ -3,7 +3,8 @@
 ghost use Rattle.std.specs.Prelude.{◌≡◌};
 ghost use Rattle.key_index.specs.KeyRows.{key_of};
 
-use monoid_laws::{Count, Measured};
+use measures::Count;
+use monoid_laws::Measured;
 use retro_base::Op;
 use std::marker::Model;
 

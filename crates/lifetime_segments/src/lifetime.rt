@@ -3,7 +3,8 @@ ghost use Rattle.std.specs.Prelude.{◌≡◌, ◌-◌, ◌<◌, ◌≤◌, ◌^
 ghost use Rattle.lifetime_segments.specs.Lifetimes.{holds};
 ghost use Rattle.lifetime_segments.specs.Tries.{Lies, ending, in_first, is_whole, in_second, seen_from};
 
-use monoid_laws::{Count, Measured};
+use measures::Count;
+use monoid_laws::Measured;
 
 /// An item, and the labels at which it is there: those from `from` to before `to`.
 #[derive(Clone, Copy)]

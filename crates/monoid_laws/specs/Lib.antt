@@ -1,14 +1,3 @@
-pub mod Both
-pub mod BothLaws
-pub mod CountLaws
-pub mod Extreme
-pub mod ExtremeLaws
 pub mod Laws
 pub mod Measure
 pub mod MeasureLaws
-pub mod PrefixSumLaws
-pub mod SuffixSumLaws
-pub mod Summed
-pub mod SummedLaws
-pub mod Walk
-pub mod WalkLaws

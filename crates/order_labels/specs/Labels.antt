@@ -2,7 +2,7 @@
 use Rattle.std.specs.Prelude.{ℕ, zero, suc, ◌+◌, ◌-◌, ◌*◌, ◌/◌, ◌^◌, ◌≤◌, Bool, nat_le, Option, Some, None, List, [], ◌∷◌, ◌++◌, length, get_or, if◌then◌else◌}
 use Rattle.std.specs.List.{insert}
 use Rattle.std.specs.Option.{option_map_or}
-use Rattle.retro_base.specs.Digits.{digits}
+use Rattle.costs.specs.Digits.{digits}
 use Rattle.retro_base.specs.Limits.{most_rows}
 
 -- the binary digits of a label

@@ -3,8 +3,8 @@ use Rattle.std.proofs.Common.{◌≡◌, ℕ, zero, suc, ◌+◌, ◌-◌, ◌*�
 use Rattle.std.proofs.lemmas.Bool.{cases_lt}
 use Rattle.std.proofs.lemmas.Nat.{pow-add}
 use Rattle.std.proofs.Math.Nat.{pow-le-pow_right}
-use Rattle.retro_base.specs.Digits.{digits_by, digits}
-use Rattle.retro_base.specs.VisitsLaws.{below-digits, one_digit, one_more}
+use Rattle.costs.specs.Digits.{digits_by, digits}
+use Rattle.costs.specs.VisitsLaws.{below-digits, one_digit, one_more}
 use Rattle.order_labels.specs.Labels.{exponent}
 
 some_digit : (fuel n : ℕ) → 1 ≤ digits_by fuel n

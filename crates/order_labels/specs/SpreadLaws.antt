@@ -5,7 +5,7 @@ use Rattle.std.proofs.lemmas.List.{length_push}
 use Rattle.std.proofs.lemmas.Nat.{le-div, pow_pos, div-add-mod'}
 use Rattle.std.proofs.lemmas.Bool.{cases_lt}
 use Rattle.retro_base.specs.Limits.{most_rows}
-use Rattle.retro_base.specs.VisitsLaws.{digits-monotone}
+use Rattle.costs.specs.VisitsLaws.{digits-monotone}
 use Rattle.order_labels.specs.LabelLaws.{IsSpreadEvenly}
 use Rattle.order_labels.specs.Labels.{AreApart, label_limit, exponent, gap_of, least_gap, multiples, spread}
 use Rattle.order_labels.specs.ApartLaws.{apart_more, less_apart}

@@ -3,14 +3,14 @@ use Rattle.std.proofs.Common.{◌≡◌, ℕ, ◌+◌, ◌⊎◌, inl, inr, true
 use Rattle.retro_base.specs.declared.row.Entry.{Entry}
 use Rattle.retro_base.specs.EntriesInOrder.{AreInOrder}
 use Rattle.retro_base.specs.State.{comes_before, with_entry}
-use Rattle.retro_base.specs.lemmas.bridges.EntryOrder.{before_one_way, before_irreflexive, same_or_other}
+use Rattle.retro_base.specs.lemmas.bridges.EntryOrder.{before_one_way, before_irreflexive, same_or_other, neither_before}
 use Rattle.retro_base.specs.lemmas.bridges.Entries.{In, with_in, in_with, with_first, with_later}
 use Rattle.retro_base.specs.lemmas.CountedEntries.{with_length}
 use Rattle.pq_fusion.specs.declared.bound.Bound.{Bound}
 use Rattle.pq_fusion.specs.declared.bound.Bound.TheVariants.{Low, At, Top}
 use Rattle.pq_fusion.specs.Bounds.{is_below, higher, lower, with_bound}
 use Rattle.pq_fusion.specs.Pieces.{together}
-use Rattle.pq_fusion.proofs.Order.{IsLeast, same_by_order, not_earlier, least_first, order_with, with_either, with_in_first, with_in_second}
+use Rattle.pq_fusion.proofs.Order.{IsLeast, not_earlier, least_first, order_with, with_either, with_in_first, with_in_second}
 
 pub one_way : (a b : Bound) → is_below a b ≡ true → is_below b a ≡ false
 one_way Low Low below = absurd (cc)
@@ -31,7 +31,7 @@ same_bound Low Low first second = refl
 same_bound Low (At b) first second = absurd (cc)
 same_bound Low Top first second = absurd (cc)
 same_bound (At a) Low first second = absurd (cc)
-same_bound (At a) (At b) first second = ap At (same_by_order a b first second)
+same_bound (At a) (At b) first second = ap At (neither_before a b first second)
 same_bound (At a) Top first second = absurd (cc)
 same_bound Top Low first second = absurd (cc)
 same_bound Top (At b) first second = absurd (cc)

@@ -6,6 +6,7 @@ use Rattle.std.proofs.lemmas.Option.{slice_get_read}
 use Rattle.retro_base.specs.declared.row.Entry.{Entry}
 use Rattle.retro_base.specs.EntriesInOrder.{AreInOrder}
 use Rattle.retro_base.specs.State.{comes_before, with_entry}
+use Rattle.retro_base.specs.lemmas.bridges.EntryOrder.{neither_before}
 use Rattle.retro_base.specs.lemmas.bridges.Entries.{with_first, with_later}
 use Rattle.retro_base.specs.lemmas.CountedEntries.{with_length}
 use Rattle.pq_fusion.specs.Chunks.{AtHead, AreChunks, IsChunk, IsHome, IsOneMoreAtMost, HoldsRank, entries_of, starts_of}
@@ -14,7 +15,7 @@ use Rattle.pq_fusion.specs.declared.bound.Bound.TheVariants.{Low, At, Top}
 use Rattle.pq_fusion.specs.Bounds.{with_bound}
 use Rattle.pq_fusion.specs.Exchanges.{Has, IsExchange}
 use Rattle.pq_fusion.proofs.Bounded.{order_bound}
-use Rattle.pq_fusion.proofs.Order.{IsLeast, not_earlier, same_by_order}
+use Rattle.pq_fusion.proofs.Order.{IsLeast, not_earlier}
 use Rattle.pq_fusion.proofs.Split.{order_front, order_back}
 use Rattle.pq_fusion.proofs.Swapped.{has_least}
 
@@ -149,7 +150,7 @@ has_home : (e : Entry) (front own behind : List Entry) → AreInOrder (front ++ 
     → (0 < length front → AtHead (λ y. comes_before e y ≡ false) (own ++ behind)) → Has e (front ++ (own ++ behind)) → Has e own
 has_home e front [] behind order some to from there = absurd (omega arith)
 has_home e front (x ∷ own) behind order some to from there = elim (has_either e front ((x ∷ own) ++ behind) there) [
-  | inl before ↦ inl (same_by_order e x (from (filled front before)) (no_earlier e x front (own ++ behind) order before))
+  | inl before ↦ inl (neither_before e x (from (filled front before)) (no_earlier e x front (own ++ behind) order before))
   | inr within ↦ elim (has_either e (x ∷ own) behind within) [
     | inl here ↦ here
     | inr beyond ↦ absurd (none_in e behind (order_back (x ∷ own) behind (order_back front ((x ∷ own) ++ behind) order)) to beyond)

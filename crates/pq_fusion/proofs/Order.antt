@@ -8,7 +8,7 @@ use Rattle.std.proofs.lemmas.Bool.Decides.{nat_tests}
 use Rattle.retro_base.specs.declared.row.Entry.{Entry}
 use Rattle.retro_base.specs.EntriesInOrder.{AreInOrder}
 use Rattle.retro_base.specs.State.{comes_before, with_entry}
-use Rattle.retro_base.specs.lemmas.bridges.EntryOrder.{before_one_way, before_or_after, same_or_other}
+use Rattle.retro_base.specs.lemmas.bridges.EntryOrder.{before_one_way, same_or_other, neither_before}
 use Rattle.retro_base.specs.lemmas.bridges.Entries.{with_first, with_later, with_swapped}
 use Rattle.retro_base.specs.lemmas.CountedEntries.{with_length}
 use Rattle.pq_fusion.specs.Pieces.{together}
@@ -28,13 +28,6 @@ pair_further k m l n j o first second = grind (arith, ints, nat_tests)
 pub not_earlier : (x y z : Entry) → comes_before y x ≡ false → comes_before z y ≡ false → comes_before z x ≡ false
 not_earlier x y z first second = pair_further x.key x.number y.key y.number z.key z.number first second
 
--- of two entries one comes first, or they are the same
-pub same_by_order : (a b : Entry) → comes_before a b ≡ false → comes_before b a ≡ false → a ≡ b
-same_by_order a b first second = elim (same_or_other a b) [
-  | inl same ↦ same
-  | inr other ↦ let wrong : true ≡ false = sym (before_or_after a b other first) ∙ second in absurd (cc)
-]
-
 pub least_further : (x y : Entry) (zs : List Entry) → comes_before y x ≡ false → IsLeast y zs → IsLeast x zs
 least_further x y [] first least = tt
 least_further x y (z ∷ zs) first least = (not_earlier x y z first least.0, least_further x y zs first least.1)
@@ -45,7 +38,7 @@ least_first x [] least = refl
 least_first x (z ∷ zs) least = elim (comes_before x z) as (λ b. comes_before x z ≡ b → with_entry x (z ∷ zs) ≡ x ∷ z ∷ zs) [
   | true ↦ λ before. with_first x z zs before
   | false ↦ λ after.
-      let same : x ≡ z = same_by_order x z after least.0 in
+      let same : x ≡ z = neither_before x z after least.0 in
       with_later x z zs after ∙ ap (λ l. z ∷ l) (least_first x zs least.1) ∙ ap (λ e. z ∷ e ∷ zs) same ∙ ap (λ e. e ∷ z ∷ zs) (sym same)
 ] refl
 

@@ -7,8 +7,8 @@ use Rattle.std.proofs.lemmas.Nat.{pow-add}
 use Rattle.std.proofs.Math.Nat.{mul-le-mul_left}
 use Rattle.retro_base.specs.declared.row.Row.{Row}
 use Rattle.retro_base.specs.Limits.{most_rows}
-use Rattle.retro_base.specs.Digits.{digits, digits_by}
-use Rattle.retro_base.specs.VisitsLaws.{below-digits, one_digit, one_more}
+use Rattle.costs.specs.Digits.{digits, digits_by}
+use Rattle.costs.specs.VisitsLaws.{below-digits, one_digit, one_more}
 use Rattle.pq_fusion.specs.declared.subtree.Pair.{Pair}
 use Rattle.pq_fusion.specs.Nodes.{IsPairOf}
 use Rattle.pq_fusion.specs.Searches.{AskedWithin, SearchesPiece, SeeksWithin, SizedWithin, VisitsUpTo, WalksWithin, rows_down, turns_in_both, walk_of}

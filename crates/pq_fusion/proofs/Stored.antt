@@ -4,8 +4,8 @@ use Rattle.std.proofs.Math.Nat.{mul-le-mul_right}
 use Rattle.std.proofs.lemmas.Nat.{pow-add}
 use Rattle.retro_base.specs.declared.row.Row.{Row}
 use Rattle.retro_base.specs.BridgeTable.{added}
-use Rattle.retro_base.specs.Digits.{digits}
-use Rattle.retro_base.specs.VisitsLaws.{below-digits}
+use Rattle.costs.specs.Digits.{digits}
+use Rattle.costs.specs.VisitsLaws.{below-digits}
 use Rattle.std.specs.Option.{option_to_list}
 use Rattle.std.specs.List.{cons_option}
 use Rattle.retro_base.specs.declared.op.Op.{Op}

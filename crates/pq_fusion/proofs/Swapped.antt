@@ -4,7 +4,7 @@ use Rattle.std.specs.List.{AllWithin, remove}
 use Rattle.retro_base.specs.declared.row.Entry.{Entry}
 use Rattle.retro_base.specs.EntriesInOrder.{AreInOrder}
 use Rattle.retro_base.specs.State.{comes_before, with_entry}
-use Rattle.retro_base.specs.lemmas.bridges.EntryOrder.{before_one_way, before_irreflexive}
+use Rattle.retro_base.specs.lemmas.bridges.EntryOrder.{before_one_way, before_irreflexive, neither_before}
 use Rattle.retro_base.specs.lemmas.bridges.Entries.{with_later}
 use Rattle.pq_fusion.specs.declared.bound.Bound.{Bound}
 use Rattle.pq_fusion.specs.declared.bound.Bound.TheVariants.{Low, At, Top}
@@ -12,7 +12,7 @@ use Rattle.pq_fusion.specs.Bounds.{is_below, with_bound, tops}
 use Rattle.pq_fusion.specs.Edits.{Apart, Passes}
 use Rattle.pq_fusion.specs.Exchanges.{Has, HasBound, IsExchange}
 use Rattle.pq_fusion.specs.Pieces.{PieceParts, IsPiece, IsRising}
-use Rattle.pq_fusion.proofs.Order.{IsLeast, same_by_order, least_first}
+use Rattle.pq_fusion.proofs.Order.{IsLeast, least_first}
 use Rattle.pq_fusion.proofs.Fused.{parts, same_parts}
 use Rattle.pq_fusion.proofs.Bounded.{same_bound, cancel}
 
@@ -44,7 +44,7 @@ pub removed : (e : Entry) (xs : List Entry) (place : ℕ) → place ≤ length x
     → AllWithin (λ y. comes_before y e ≡ false) xs place (length xs) → (place < length xs) × IsTaken e xs (remove xs place)
 removed e [] place within order there before after = absurd there
 removed e (x ∷ xs) zero within order there before after =
-    let same : e ≡ x = same_by_order e x (has_least x e xs order.0 there) (after 0 x (omega arith) (omega arith)) in
+    let same : e ≡ x = neither_before e x (has_least x e xs order.0 there) (after 0 x (omega arith) (omega arith)) in
     (omega arith, record { items = ap (λ d. with_entry d xs) same ∙ least_first x xs order.0; order = order.1 })
 removed e (x ∷ xs) (suc place) within order there before after =
     let own : comes_before x e ≡ true = before 0 x (omega arith) (omega arith) in

@@ -1,9 +1,9 @@
 -- The visits of an edit on its path down the tree.
 use Rattle.std.proofs.Common.{◌≡◌, ℕ, zero, suc, ◌+◌, ◌*◌, ◌^◌, ◌<◌, ◌≤◌, List, ◌++◌, length, ap, arith, length-append, subst}
 use Rattle.retro_base.specs.declared.row.Row.{Row}
-use Rattle.retro_base.specs.Digits.{digits}
-use Rattle.retro_base.specs.Visits.{VisitsWithin}
-use Rattle.retro_base.specs.VisitsLaws.{below-digits, digits-monotone}
+use Rattle.costs.specs.Digits.{digits}
+use Rattle.costs.specs.Visits.{VisitsWithin}
+use Rattle.costs.specs.VisitsLaws.{below-digits, digits-monotone}
 use Rattle.pq_fusion.specs.Nodes.{IsBalanced, IsWithinLevels, weight}
 use Rattle.pq_fusion.specs.Pieces.{PieceParts, size_of, tolerant}
 use Rattle.pq_fusion.specs.Searches.{EditVisits, EditedWithin, EditsWithin, SearchesBoth, SearchesWithin, StepsWithin, VisitsUpTo}

@@ -2,7 +2,7 @@
 use Rattle.std.proofs.Common.{◌≡◌, ℕ, zero, suc, ◌+◌, ◌*◌, ◌≤◌, ◌⊎◌, inl, inr, false, List, ◌++◌, length, sym, subst, arith, length-append, Result, Ok, Err, OnOk}
 use Rattle.std.proofs.lemmas.Bool.Decides.{nat_tests}
 use Rattle.retro_base.specs.declared.row.Row.{Row}
-use Rattle.retro_base.specs.Digits.{digits}
+use Rattle.costs.specs.Digits.{digits}
 use Rattle.pq_fusion.specs.Nodes.{weight, IsBalanced}
 use Rattle.pq_fusion.specs.Passages.{make_pair}
 use Rattle.pq_fusion.specs.Wear.{WornRows, gap, joined}

@@ -1,6 +1,6 @@
 -- How few rows an edit makes anew. Where a part is made anew, the wear that it had pays for its rows.
 use Rattle.std.specs.Prelude.{ℕ, ◌+◌, ◌*◌, ◌≤◌, List, [], ◌∷◌, length}
-use Rattle.retro_base.specs.Digits.{digits}
+use Rattle.costs.specs.Digits.{digits}
 use Rattle.pq_fusion.specs.Nodes.{weight, IsWithinLevels}
 use Rattle.pq_fusion.specs.Wear.{WornRows, unworn}
 

@@ -1,7 +1,7 @@
 //! The counter of rows that are made anew.
 
 ghost use Rattle.std.specs.Prelude.{◌≡◌, ◌+◌, ◌<◌};
-ghost use Rattle.retro_base.specs.Visits.{OpensCounter};
+ghost use Rattle.costs.specs.Visits.{OpensCounter};
 
 use std::marker::Model;
 use std::sync::ledger::{Blank, Book, Ledger, Share};

@@ -4,7 +4,7 @@ ghost use Rattle.std.specs.Prelude.{◌≡◌, ◌+◌, ◌<◌, List, length, O
 ghost use Rattle.retro_base.specs.declared.row.Entry.{Entry};
 ghost use Rattle.retro_base.specs.EntriesInOrder.{AreInOrder};
 ghost use Rattle.retro_base.specs.State.{with_entry};
-ghost use Rattle.retro_base.specs.Visits.{OpensCounter};
+ghost use Rattle.costs.specs.Visits.{OpensCounter};
 ghost use Rattle.pq_fusion.specs.Bounds.{with_bound};
 ghost use Rattle.pq_fusion.specs.Exchanges.{Has, HasBound, IsExchange, IsPlaceOf};
 ghost use Rattle.pq_fusion.specs.Searches.{SearchesWithin};

@@ -8,7 +8,7 @@ ghost use Rattle.retro_base.specs.Edits.{add, cut};
 ghost use Rattle.retro_base.specs.Replay.{IsValid, state_at};
 ghost use Rattle.retro_base.specs.Timeline.{IsReplayable};
 ghost use Rattle.retro_base.specs.Questions.{suits};
-ghost use Rattle.retro_base.specs.Visits.{OpensCounter, VisitsWithin};
+ghost use Rattle.costs.specs.Visits.{OpensCounter, VisitsWithin};
 
 use crate::line_rows::LineRows;
 use crate::sequence::{Sequence, ask_sequence, ask_uncounted, list_sequence};

@@ -3,7 +3,7 @@
 ghost use Rattle.std.specs.Prelude.{◌≡◌, ℕ, ℤ, List, pos, negsuc, ◌-ℤ◌, ◌+◌, ◌^◌, ◌<◌, ◌≤◌, [], length, slice_get, Some, OnOk, OnErr, IfOk, IfSome};
 ghost use Rattle.std.specs.List.{insert, remove};
 ghost use Rattle.retro_base.specs.declared.row.Row.{Row};
-ghost use Rattle.retro_base.specs.Visits.{VisitsWithin};
+ghost use Rattle.costs.specs.Visits.{VisitsWithin};
 ghost use Rattle.prefix_trees.specs.Growth.{grown, growth_at, left_growth, right_growth, sign_of};
 ghost use Rattle.prefix_trees.specs.Prefixes.{FindsFirstAtMost, FindsLastAtMost, FindsLastAtEither};
 ghost use Rattle.prefix_trees.specs.Falls.{NeverFalls, FallsFirst};

@@ -5,7 +5,7 @@ ghost use Rattle.retro_base.specs.declared.kind.Kind.{Kind};
 ghost use Rattle.retro_base.specs.Replay.{state_at};
 ghost use Rattle.retro_base.specs.Answers.{answer_of, content};
 ghost use Rattle.retro_base.specs.Timeline.{IsReplayable};
-ghost use Rattle.retro_base.specs.Visits.{OpensCounter, VisitsWithin};
+ghost use Rattle.costs.specs.Visits.{OpensCounter, VisitsWithin};
 ghost use Rattle.prefix_trees.specs.Growth.{IsLine, grown, sign_of};
 ghost use Rattle.prefix_trees.specs.FailureLaws.{LineAt};
 ghost use Rattle.prefix_trees.specs.FoundLaws.{FindsWriter};

@@ -1,9 +1,10 @@
 //! A sign with a mark, as it is measured.
 
 ghost use Rattle.std.specs.Prelude.{◌≡◌};
-ghost use Rattle.monoid_laws.specs.Walk.{IsSign};
+ghost use Rattle.measures.specs.Walk.{IsSign};
 
-use monoid_laws::{Both, LeastPrefix, Measured};
+use measures::{Both, LeastPrefix};
+use monoid_laws::Measured;
 use std::marker::Model;
 
 /// What a range of signs measures: the walk of the signs, and that of their marks.
@@ -18,7 +19,7 @@ pub(crate) struct Signed {
 
 impl Model for Signed {
     ghost use Rattle.std.specs.Prelude.{ℤ, Bool};
-    ghost use Rattle.monoid_laws.specs.Walk.{IsSign};
+    ghost use Rattle.measures.specs.Walk.{IsSign};
 
     ghost Value = { ℤ × Bool };
 

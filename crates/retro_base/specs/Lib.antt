@@ -10,7 +10,10 @@ pub mod Outcomes
 pub mod Answers
 pub mod EditedLists
 pub mod Edits
+pub mod History
 pub mod Places
+pub mod Shift
+pub mod Holders
 pub mod Timeline
 pub mod Order
 pub mod OrderLaws
@@ -40,7 +43,4 @@ pub mod Text
 pub mod TextLaws
 pub mod OpText
 pub mod LineLength
-pub mod Digits
-pub mod Visits
-pub mod VisitsLaws
 pub mod lemmas

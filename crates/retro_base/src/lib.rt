@@ -9,21 +9,21 @@
 //! `PlainList` is the plain program whose contract is the definition; every faster structure is compared with
 //! it.
 //!
-//! - Rows: `Kind`, `Op`, `Row`, `PackedRow`, `Rows`, `Entry`, `Change`.
+//! - Rows: `Kind`, `Op`, `Row`, `PackedRow`, `Rows`, `Target`, `Entry`, `Change`.
 //! - Questions: `Question`, `Answer`, `Item`, `Listing`.
 //! - Structures: `Retro`; `Partial`, which answers of the present alone, and of that of a later structure whose first
 //!   rows it has, and takes no memory to remove; `AnyStructure`, one type over those of all kinds; `PlainList`, `PerformedRows`.
 //! - The questions of `Partial` with a counter of their own: `uncounted`.
-//! - Texts: `Name`, `Text`, `print_op`. Costs: `Steps`. Memory: `NoMemory`.
+//! - Texts: `Name`, `Text`, `print_op`. What `costs` has, handed on: `Steps`, `NoMemory`.
 //! - Laws on the bridges of a priority queue, and on edits that give: the functions of the module `laws`, which have no body.
 //! - Limits: `MAX_ROWS`, `MAX_NEXT`, which are those of `specs/Limits.antt`.
-//! - `kind`, `op`, `op_text`, `row`, `packed_row`, `rows`, `name`, `limits`: what a history is told in.
+//! - `kind`, `op`, `op_text`, `row`, `packed_row`, `rows`, `target`, `name`, `limits`: what a history is told in.
 //! - `question`, `listing`: what is asked, and answered.
 //! - `retro`, `partial`, `any_structure`: the three traits of structures, the third of which is made of whatever kind a timeline has.
 //!   `uncounted`: the questions of the second with a counter of their own.
 //! - `plain_list`, `performed_rows`: the plain structure and performed rows, over `content` with its `line`, `pairs` and
 //!   `entries`; `counting`, `bridge_search`: the row that fails first, and what an edit of a priority queue changes.
-//! - `text`, `steps`, `memory`: what is written, what is counted, and the error of no memory. `laws`.
+//! - `text`: what is written. `laws`.
 #![tactic(auto)]
 
 mod any_structure;
@@ -36,7 +36,6 @@ pub mod laws;
 mod limits;
 mod line;
 mod listing;
-mod memory;
 mod name;
 mod op;
 mod op_text;
@@ -49,15 +48,15 @@ mod question;
 mod retro;
 mod row;
 mod rows;
-mod steps;
+mod target;
 mod text;
 pub mod uncounted;
 
 pub use any_structure::AnyStructure;
+pub use costs::{NoMemory, Steps};
 pub use kind::Kind;
 pub use limits::{MAX_NEXT, MAX_ROWS, limits_are_those_stated};
 pub use listing::Listing;
-pub use memory::NoMemory;
 pub use name::Name;
 pub use op::Op;
 pub use op_text::print_op;
@@ -69,5 +68,5 @@ pub use question::{Answer, Item, Question};
 pub use retro::Retro;
 pub use row::{Change, Entry, Row};
 pub use rows::Rows;
-pub use steps::Steps;
+pub use target::Target;
 pub use text::Text;

@@ -6,12 +6,12 @@ use Rattle.evidence.specs.declared.evidence.Evidence.{Evidence}
 use Rattle.retro_base.specs.LineLength.{is_long}
 use Rattle.followers.specs.Followers.{Reporting}
 use Rattle.followers.specs.Mirrors.{held, mirror_text}
-use Rattle.timelines.specs.declared.outcome.Outcome.TheVariants.{Refused}
-use Rattle.timelines.specs.declared.outcome.Refusal.TheVariants as refusals
-use Rattle.timelines.specs.Answers.{reactions}
-use Rattle.timelines.specs.Bench.{Bench, NamedTimeline, OpenBlock, empty_bench}
-use Rattle.timelines.specs.Outcome.{refusal_text, reply_text}
-use Rattle.timelines.specs.Reaction.{Reaction, happens, reacts}
+use Rattle.reactions.specs.declared.outcome.Outcome.TheVariants.{Refused}
+use Rattle.reactions.specs.declared.outcome.Refusal.TheVariants as refusals
+use Rattle.reactions.specs.Answers.{reactions}
+use Rattle.reactions.specs.Bench.{Bench, NamedTimeline, OpenBlock, empty_bench}
+use Rattle.reactions.specs.Outcome.{refusal_text, reply_text}
+use Rattle.reactions.specs.Reaction.{Reaction, happens, reacts}
 use Rattle.retro_run.specs.Audience.{Audience, after_events, audience_after, follower_at, follows, hears, mutes, turn, turn_with, without}
 use Rattle.retro_run.specs.Events.{events, events_among, events_spelled}
 use Rattle.retro_run.specs.MuteLaws.{refuses_mute}

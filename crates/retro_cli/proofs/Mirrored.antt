@@ -24,13 +24,13 @@ use Rattle.retro_base.specs.declared.kind.Kind.TheVariants.{Pq}
 use Rattle.retro_base.specs.Bridges.{entries_of, survivors}
 use Rattle.retro_base.specs.Replay.{fold_rows, one_later, run}
 use Rattle.retro_base.specs.State.{State, empty, step}
-use Rattle.timelines.specs.Bench.{Bench, NamedTimeline, is_named, timeline_of, empty_bench}
+use Rattle.reactions.specs.Bench.{Bench, NamedTimeline, is_named, timeline_of, empty_bench}
 use Rattle.retro_cli.specs.Mirrored.{entries_in, entries_named, present_entries, ChangesAloneHoldThePresent}
 use Rattle.retro_cli.proofs.accepted.Effects.{reported_rows}
 use Rattle.retro_cli.proofs.accepted.Timelines.{names_of, rows_by_name}
 use Rattle.followers.specs.Mirrors.{held_after}
 use Rattle.timeline_undo.specs.Back.{ShiftsCanBeMade}
-use Rattle.timelines.specs.Answers.{bench_after}
+use Rattle.reactions.specs.Answers.{bench_after}
 use Rattle.retro_cli.proofs.accepted.Script.{answers_of, nothing_kept, reads_answers}
 
 -- the rows that a judge was reported of a name

@@ -9,8 +9,8 @@ use Rattle.retro_base.specs.Bridges.{survivors}
 use Rattle.evidence.specs.declared.evidence.Evidence.{Evidence}
 use Rattle.followers.specs.Followers.{Reporting}
 use Rattle.followers.specs.Mirrors.{held, mirror_text}
-use Rattle.timelines.specs.Answers.{bench_after}
-use Rattle.timelines.specs.Bench.{Bench, NamedTimeline, empty_bench, timeline_of}
+use Rattle.reactions.specs.Answers.{bench_after}
+use Rattle.reactions.specs.Bench.{Bench, NamedTimeline, empty_bench, timeline_of}
 use Rattle.retro_run.specs.Audience.{Audience, after_events, audience_after, follower_at}
 use Rattle.retro_run.specs.Events.{events}
 

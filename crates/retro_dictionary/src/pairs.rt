@@ -1,6 +1,7 @@
 //! Keys with values, ranges of keys, and what is found of one.
 
-use monoid_laws::{Measured, Sum};
+use measures::Sum;
+use monoid_laws::Measured;
 use std::marker::Model;
 
 /// A key of a dictionary with its value.

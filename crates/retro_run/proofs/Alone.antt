@@ -1,9 +1,9 @@
 -- Where nobody follows a script, the bench alone answers it.
 use Rattle.std.proofs.Common.{◌≡◌, ℕ, List, [], ◌∷◌, ap, ◌∙◌, refl, arith, Option}
 use Rattle.std.proofs.Math.Path.{fun_ext}
-use Rattle.timelines.specs.Answers.{reactions}
-use Rattle.timelines.specs.Bench.{Bench, empty_bench}
-use Rattle.timelines.specs.Reaction.{Reaction, reacts}
+use Rattle.reactions.specs.Answers.{reactions}
+use Rattle.reactions.specs.Bench.{Bench, empty_bench}
+use Rattle.reactions.specs.Reaction.{Reaction, reacts}
 use Rattle.retro_run.specs.Audience.{audience_after, followed, followed_from, texts_of, turn}
 use Rattle.retro_run.specs.Output.{Answering, alone}
 

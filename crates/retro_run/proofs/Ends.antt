@@ -11,7 +11,7 @@ use Rattle.retro_io.specs.Flushes.{EndsWithFailedSend, Sends, StaysUnflushed}
 use Rattle.retro_io.specs.Lines.{has_line_feed, lines}
 use Rattle.retro_io.specs.Reads.{MakesOf, Took}
 use Rattle.retro_io.specs.Sink.{AppendsProperPrefix}
-use Rattle.timelines.specs.Bench.{Bench}
+use Rattle.reactions.specs.Bench.{Bench}
 use Rattle.retro_run.specs.declared.stop.Stop.{Stop}
 use Rattle.retro_run.specs.declared.stop.Stop.TheVariants as stops
 use Rattle.retro_run.specs.Audience.{Audience, followed}

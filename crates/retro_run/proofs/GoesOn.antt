@@ -15,9 +15,9 @@ use Rattle.retro_io.specs.SinkLaws.{Appends-append, Appends-none}
 use Rattle.retro_io.specs.Source.{Gives, bytes_left}
 use Rattle.retro_base.specs.Facts.{some_is, some_is_not_none}
 use Rattle.retro_base.specs.LineLength.{is_long}
-use Rattle.timelines.specs.Answers.{bench_after}
-use Rattle.timelines.specs.Bench.{Bench, BenchState, empty_bench}
-use Rattle.timelines.specs.Reaction.{Reaction, closing, reacts}
+use Rattle.reactions.specs.Answers.{bench_after}
+use Rattle.reactions.specs.Bench.{Bench, BenchState, empty_bench}
+use Rattle.reactions.specs.Reaction.{Reaction, closing, reacts}
 use Rattle.retro_run.specs.Audience.{Audience, Turn, audience_after, followed, follows, follows_to, mutes, turn}
 use Rattle.retro_run.specs.Events.{report_lines}
 use Rattle.retro_run.specs.OutOfMemory.{AppendsAnswersToEarlier, IsMetAtLine}

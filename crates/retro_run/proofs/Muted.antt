@@ -2,8 +2,8 @@
 use Rattle.std.proofs.Common.{◌≡◌, ℕ, Bool, false, List, [], refl, Option, Some, None, Result, Ok, Err}
 use Rattle.std.specs.Prelude.{IfOk, IfSome, IsSome, OnOk}
 use Rattle.followers.specs.Followers.{Reporting}
-use Rattle.timelines.specs.Bench.{Bench, BenchState}
-use Rattle.timelines.specs.Reaction.{Reaction, reacts_to}
+use Rattle.reactions.specs.Bench.{Bench, BenchState}
+use Rattle.reactions.specs.Reaction.{Reaction, reacts_to}
 use Rattle.retro_run.specs.declared.stop.Stop.{Stop}
 use Rattle.retro_run.specs.Audience.{Audience, Turn, answers, follower_at, follows_to, hears, mutes, reports, without}
 use Rattle.retro_run.specs.Events.{events_among, report_line}

@@ -4,9 +4,9 @@ use Rattle.std.specs.List.{concat, list_any}
 use Rattle.std.proofs.Math.Bool.{or-false}
 use Rattle.std.proofs.lemmas.List.{map-append}
 use Rattle.std.proofs.lemmas.List.Folds.{concat-append, list_any-append}
-use Rattle.timelines.specs.Answers.{reactions, bench_after}
-use Rattle.timelines.specs.Bench.{Bench, empty_bench}
-use Rattle.timelines.specs.Reaction.{Reaction, reacts}
+use Rattle.reactions.specs.Answers.{reactions, bench_after}
+use Rattle.reactions.specs.Bench.{Bench, empty_bench}
+use Rattle.reactions.specs.Reaction.{Reaction, reacts}
 use Rattle.retro_run.specs.Audience.{Audience, audience_after, followed, followed_from, follows, texts_of}
 use Rattle.retro_run.specs.Events.{report_lines, with_reports}
 use Rattle.retro_run.specs.Output.{answers_by, close_of, output_by, refuses_by, whole_by}

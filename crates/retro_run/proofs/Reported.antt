@@ -8,7 +8,7 @@ use Rattle.retro_io.specs.FlushLaws.{EndsWithFailedWrite-more, EndsWithFailedSen
 use Rattle.retro_io.specs.Flushes.{Sends, StaysUnflushed, EndsWithFailedSend}
 use Rattle.retro_io.specs.Sink.{Appends, AppendsPrefixOf, AppendsProperPrefix}
 use Rattle.followers.specs.Followers.{Reporting}
-use Rattle.timelines.specs.Bench.{empty_bench}
+use Rattle.reactions.specs.Bench.{empty_bench}
 use Rattle.retro_run.specs.declared.stop.Stop.{Stop}
 use Rattle.retro_run.specs.declared.stop.Stop.TheVariants as stops
 use Rattle.retro_run.specs.Audience.{texts_of, Audience, audience_after, followed}

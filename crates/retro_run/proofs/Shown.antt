@@ -9,9 +9,9 @@ use Rattle.retro_io.specs.Lines.{longest_line}
 use Rattle.retro_io.specs.Marks.{Shows}
 use Rattle.evidence_check.specs.Judgement.{Judge, judged, judged_line}
 use Rattle.evidence_check.specs.JudgementLaws.{judged-first}
-use Rattle.timelines.specs.Bench.{Bench, OpenBlock}
-use Rattle.timelines.specs.Reaction.{reacts}
-use Rattle.timelines.specs.ReactionLaws.{reacts-first}
+use Rattle.reactions.specs.Bench.{Bench, OpenBlock}
+use Rattle.reactions.specs.Reaction.{reacts}
+use Rattle.reactions.specs.ReactionLaws.{reacts-first}
 use Rattle.retro_run.specs.Audience.{Audience, follows, follows_to, mutes, turn}
 use Rattle.retro_io.specs.declared.mark.ReadError.{ReadError}
 

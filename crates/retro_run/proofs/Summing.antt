@@ -7,9 +7,9 @@ use Rattle.retro_base.specs.Limits.{longest_line}
 use Rattle.retro_base.specs.Name.{is_name, name_of}
 use Rattle.script_gen.specs.Coming.{GivesNext}
 use Rattle.script_gen.specs.Script.{generated, lines_from, state_later}
-use Rattle.timelines.specs.Answers.{bench_after, reactions}
-use Rattle.timelines.specs.Bench.{Bench, BenchState}
-use Rattle.timelines.specs.Reaction.{Reaction, reacts, reacts_to}
+use Rattle.reactions.specs.Answers.{bench_after, reactions}
+use Rattle.reactions.specs.Bench.{Bench, BenchState}
+use Rattle.reactions.specs.Reaction.{Reaction, reacts, reacts_to}
 use Rattle.retro_run.specs.Summary.{generated_name, one_if, refusals}
 
 abbrev count : List Reaction → ℕ

@@ -6,8 +6,8 @@ use Rattle.followers.specs.Followers.{Reporting}
 use Rattle.script_grammar.specs.declared.command.Command.{Command}
 use Rattle.script_grammar.specs.declared.command.Command.TheVariants.{Mute}
 use Rattle.script_grammar.specs.declared.command.LineError.{LineError}
-use Rattle.timelines.specs.Bench.{Bench, OpenBlock, empty_bench}
-use Rattle.timelines.specs.Reaction.{Reaction, reacts, reacts_to, spelled}
+use Rattle.reactions.specs.Bench.{Bench, OpenBlock, empty_bench}
+use Rattle.reactions.specs.Reaction.{Reaction, reacts, reacts_to, spelled}
 use Rattle.retro_run.specs.Events.{events_among, report_line}
 use Rattle.retro_run.specs.Output.{Answering}
 

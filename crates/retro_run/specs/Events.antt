@@ -4,9 +4,9 @@ use Rattle.retro_io.specs.Lines.{line_feed, lines}
 use Rattle.retro_io.specs.Sink.{Appends}
 use Rattle.evidence.specs.declared.evidence.Evidence.{Evidence}
 use Rattle.evidence.specs.Reading.{evidence_of}
-use Rattle.timelines.specs.Answers.{reactions}
-use Rattle.timelines.specs.Bench.{empty_bench}
-use Rattle.timelines.specs.Reaction.{Reaction}
+use Rattle.reactions.specs.Answers.{reactions}
+use Rattle.reactions.specs.Bench.{empty_bench}
+use Rattle.reactions.specs.Reaction.{Reaction}
 
 -- the events that lines spell: other lines are passed over
 abbrev pub events_spelled : List (List ℕ) → List Evidence

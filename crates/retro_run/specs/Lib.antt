@@ -1,5 +1,5 @@
-pub use Rattle.timelines.specs.Answers
-pub use Rattle.timelines.specs.Reaction
+pub use Rattle.reactions.specs.Answers
+pub use Rattle.reactions.specs.Reaction
 pub mod Audience
 pub mod Cause
 pub mod Delivery

@@ -3,10 +3,10 @@ use Rattle.std.proofs.Common.{◌≡◌, ℕ, Bool, List, ap, Option, Some, None
 use Rattle.script_grammar.specs.declared.command.Command.{Command}
 use Rattle.script_grammar.specs.declared.command.Command.TheVariants.{Mute}
 use Rattle.script_grammar.specs.declared.command.LineError.{LineError}
-use Rattle.timelines.specs.Bench.{NamedTimeline, OpenBlock}
-use Rattle.timelines.specs.declared.outcome.Outcome.TheVariants.{Refused}
-use Rattle.timelines.specs.declared.outcome.Refusal.TheVariants as refusals
-use Rattle.timelines.specs.Reaction.{happens, leaves, outside, spelled, with_block}
+use Rattle.reactions.specs.Bench.{NamedTimeline, OpenBlock}
+use Rattle.reactions.specs.declared.outcome.Outcome.TheVariants.{Refused}
+use Rattle.reactions.specs.declared.outcome.Refusal.TheVariants as refusals
+use Rattle.reactions.specs.Reaction.{happens, leaves, outside, spelled, with_block}
 use Rattle.retro_run.specs.Audience.{mutes, number_muted}
 
 -- a line that mutes a follower spells that

@@ -3,9 +3,9 @@
 use Rattle.std.specs.Prelude.{ℕ, Bool, ◌||◌, List, [], ◌∷◌, ◌++◌, map, Option, if◌then◌else◌}
 use Rattle.std.specs.List.{concat, list_any}
 use Rattle.retro_io.specs.Lines.{lines, has_line_feed}
-use Rattle.timelines.specs.Answers.{reactions, bench_after}
-use Rattle.timelines.specs.Bench.{empty_bench}
-use Rattle.timelines.specs.Reaction.{Reaction, closing}
+use Rattle.reactions.specs.Answers.{reactions, bench_after}
+use Rattle.reactions.specs.Bench.{empty_bench}
+use Rattle.reactions.specs.Reaction.{Reaction, closing}
 use Rattle.retro_run.specs.Events.{with_reports}
 
 -- how a script is answered: the reactions to its first lines, and what is reported after all of them, under each number

@@ -5,9 +5,9 @@ use Rattle.std.specs.Option.{option_map_or}
 use Rattle.retro_base.specs.declared.kind.Kind.{Kind}
 use Rattle.retro_io.specs.Lines.{line_feed}
 use Rattle.script_gen.specs.Script.{generated}
-use Rattle.timelines.specs.Answers.{bench_after, reactions}
-use Rattle.timelines.specs.Bench.{Bench, NamedTimeline, empty_bench, present_size, timeline_of}
-use Rattle.timelines.specs.Reaction.{Reaction}
+use Rattle.reactions.specs.Answers.{bench_after, reactions}
+use Rattle.reactions.specs.Bench.{Bench, NamedTimeline, empty_bench, present_size, timeline_of}
+use Rattle.reactions.specs.Reaction.{Reaction}
 
 -- the most lines that a generated script has after its first one
 abbrev pub most_generated : ℕ

@@ -13,10 +13,10 @@ use crate::follow::write_reports;
 use crate::script::answer_source;
 use crate::stop::Stop;
 use followers::Follower;
+use reactions::AnyBench;
 use retro_base::NoMemory;
 use retro_io::{Failed, SendingSink, Sink, Source};
 use std::alloc::Global;
-use timelines::AnyBench;
 
 /// Reads a script and answers its lines, whose events the followers are handed, and then writes what each of them reports.
 fn answer_and_report<B: AnyBench, S: Source, K: SendingSink>(

@@ -2,19 +2,19 @@
 
 ghost use Rattle.std.specs.Prelude.{◌≡◌, ◌≤◌, ◌<◌, ◌+◌, ◌-◌, ◌^◌, ◌++◌, [], false, length, Some, IfOk, IsErrOf, OnOk};
 ghost use Rattle.retro_io.specs.Faults.{CountsFaults};
-ghost use Rattle.timelines.specs.Answers.{bench_after};
-ghost use Rattle.timelines.specs.Bench.{present_size};
+ghost use Rattle.reactions.specs.Answers.{bench_after};
+ghost use Rattle.reactions.specs.Bench.{present_size};
 ghost use Rattle.retro_run.specs.Delivery.{StandsAt};
 ghost use Rattle.retro_run.specs.Stop.{stops_at_read, stops_at_write};
 ghost use Rattle.retro_run.specs.Summary.{most_generated, of_generated, one_if, refusals, summary, summary_text};
 
 use crate::deliver::deliver;
 use crate::stop::Stop;
+use reactions::AnyBench;
 use retro_base::{Kind, Name, NoMemory, Text};
 use retro_io::{SendingSink, Sink};
 use script_gen::ScriptGen;
 use std::alloc::Global;
-use timelines::AnyBench;
 
 /// What the lines of a generated script come to.
 #[derive(Clone, Copy)]

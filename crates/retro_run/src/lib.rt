@@ -1,13 +1,13 @@
 //! The loops of a run: a script is answered line by line, evidence is judged, and a generated script is summed up, from the bytes in to
 //! the bytes out.
 //!
-//! Which bench answers the lines is left open: it is any that meets `AnyBench` of `timelines`. The output of a script is defined in
+//! Which bench answers the lines is left open: it is any that meets `AnyBench` of `reactions`. The output of a script is defined in
 //! `specs/Output.antt` over the whole list of its lines, by what a bench makes of one line after another; the loop only follows it. A run
 //! ends with whether a line was refused, which of a generated script its sum says instead, or early with a `Stop`, and each `Stop` but
 //! `NoMemory` has its cause in a clause. What stands in the sink then is said by `specs/Ends.antt` of a script, and by
 //! `specs/Delivery.antt` of the other two.
 //!
-//! The lines and the faults are those of `retro_io`, what becomes of a line is said by `timelines`, and whether evidence is true
+//! The lines and the faults are those of `retro_io`, what becomes of a line is said by `reactions`, and whether evidence is true
 //! by `evidence_check`, which shares no code with it: this crate holds nothing but the loops between them.
 //!
 //! Over a sink at which bytes may wait, an outbox, whoever waits for an answer has it before the program waits for more: nothing waits

@@ -3,7 +3,7 @@
 ghost use Rattle.std.specs.Prelude.{◌≡◌, ◌≤◌, [], None, Some, false, length, option_map, IfOk, IfSome, IsSome, IsTrue, OnOk};
 ghost use Rattle.retro_base.specs.Limits.{longest_line};
 ghost use Rattle.retro_io.specs.Faults.{CountsFaults};
-ghost use Rattle.timelines.specs.Reaction.{reacts_to};
+ghost use Rattle.reactions.specs.Reaction.{reacts_to};
 ghost use Rattle.retro_run.specs.Audience.{answers, audience_by, follower_at, follows_to, mutes, without};
 ghost use Rattle.retro_run.specs.Delivery.{Writes};
 ghost use Rattle.retro_run.specs.Events.{report_line};
@@ -12,10 +12,10 @@ ghost use Rattle.retro_run.specs.Stop.{stops_at_write};
 use crate::follow::write_report;
 use crate::stop::Stop;
 use followers::Follower;
+use reactions::AnyBench;
 use retro_base::Text;
 use retro_io::{SendingSink, Sink};
 use script_grammar::{Command, read_line};
-use timelines::AnyBench;
 
 /// The number of the follower that a line mutes, if that is left; none where the bench answers the line.
 pub(crate) fn muted<B: AnyBench>(

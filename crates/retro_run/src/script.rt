@@ -6,8 +6,8 @@ ghost use Rattle.retro_io.specs.Faults.{CountsFaults};
 ghost use Rattle.retro_io.specs.Flushes.{EndsWithFailedSend, StaysUnflushed};
 ghost use Rattle.retro_io.specs.LineReader.{IsUnread, MovesOn, held, limit_of, source_of, taken};
 ghost use Rattle.retro_io.specs.Lines.{has_line_feed, lines};
-ghost use Rattle.timelines.specs.Bench.{empty_bench};
-ghost use Rattle.timelines.specs.Reaction.{closing};
+ghost use Rattle.reactions.specs.Bench.{empty_bench};
+ghost use Rattle.reactions.specs.Reaction.{closing};
 ghost use Rattle.retro_run.specs.Audience.{audience_after, audience_by, followed, follows_to};
 ghost use Rattle.retro_run.specs.Cause.{HasCause};
 ghost use Rattle.retro_run.specs.Delivery.{Writes};
@@ -22,10 +22,10 @@ use crate::mute::{answer_by_follower, muted};
 use crate::sent_reader::SentReader;
 use crate::stop::Stop;
 use followers::Follower;
+use reactions::AnyBench;
 use retro_base::Text;
 use retro_io::{LineBuffer, LineReader, Mark, SendingSink, Sink, Source};
 use std::alloc::Global;
-use timelines::AnyBench;
 
 /// Answers one line: by the follower that it mutes, or by the bench, whose events the followers are handed before the answer is written.
 /// The answer takes the place of what `answer` holds.

@@ -1,7 +1,7 @@
 //! The priority queue by bridges: its rows one by one, which fail, and its copies. What it answers besides is seen through its checkpoints.
 
 ghost use Rattle.std.specs.Prelude.{◌<◌};
-ghost use Rattle.retro_base.specs.Visits.{OpensCounter};
+ghost use Rattle.costs.specs.Visits.{OpensCounter};
 
 use super::listings::expect_values;
 use super::priority_queues::{FOUR, GAINED, LOST, TAKEN, TWO};

@@ -16,7 +16,7 @@ use Rattle.retro_base.specs.lemmas.Counted.{of_kind_at}
 use Rattle.retro_base.specs.lemmas.GivingEdits.{adding_row_replays, taking_row_can_go}
 use Rattle.timeline_undo.specs.declared.replacement.Replacement.{Replacement}
 use Rattle.timeline_undo.specs.Replaced.{Replaces, before_without, replaced}
-use Rattle.timeline_undo.specs.Shift.{index_after}
+use Rattle.retro_base.specs.Shift.{index_after}
 use Rattle.timeline_undo.specs.WalkCounts.{walked, count_first}
 use Rattle.timeline_undo.proofs.Replaced.{cut_first, put_first}
 use Rattle.timeline_undo.proofs.Steps.{stands_after_put}

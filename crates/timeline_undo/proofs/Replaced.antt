@@ -11,10 +11,10 @@ use Rattle.retro_base.specs.OrderLaws.{all_at, place_of_time-cons, first_place}
 use Rattle.retro_base.specs.Places.{place_of_time}
 use Rattle.retro_base.specs.Timeline.{TimesNeverFall}
 use Rattle.timeline_undo.specs.declared.replacement.Replacement.{Replacement}
-use Rattle.timeline_undo.specs.declared.shift.Target.{Target}
-use Rattle.timeline_undo.specs.declared.shift.Target.TheVariants.{At, Into}
+use Rattle.retro_base.specs.declared.target.Target.{Target}
+use Rattle.retro_base.specs.declared.target.Target.TheVariants.{At, Into}
 use Rattle.timeline_undo.specs.Replaced.{before_without, replaced, replacement_of, step_of_replacement}
-use Rattle.timeline_undo.specs.Shift.{place_for, put_then_cut, cut_then_put, shift_of}
+use Rattle.retro_base.specs.Shift.{place_for, put_then_cut, cut_then_put, shift_of}
 
 -- one is put in before another, which is taken out then
 put_before : {X : Type 0} (xs : List X) (before n index : ℕ) (new old : X) → before + n ≡ index → slice_get xs index ≡ Some old

@@ -9,7 +9,7 @@ use Rattle.circular_buffer.specs.Buffer.{keep_last}
 use Rattle.retro_base.specs.Limits.{most_steps}
 use Rattle.retro_base.specs.Edits.{Step}
 use Rattle.timeline_undo.specs.declared.turn.Turns.{Turns}
-use Rattle.timeline_undo.specs.History.{newest, older_steps, newest_step}
+use Rattle.retro_base.specs.History.{newest, older_steps, newest_step}
 use Rattle.timeline_undo.specs.KeptSteps.{edits_back, steps_of, taken_back}
 use Rattle.timeline_undo.specs.Session.{step_reported}
 

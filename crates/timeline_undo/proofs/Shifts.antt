@@ -21,8 +21,8 @@ use Rattle.retro_base.specs.lemmas.Counted.{of_kind_at}
 use Rattle.retro_base.specs.lemmas.Folds.{err_within}
 use Rattle.retro_base.specs.lemmas.GivingEdits.{adding_row_replays, taking_row_can_go}
 use Rattle.timeline_undo.specs.declared.replacement.Replacement.{Replacement}
-use Rattle.timeline_undo.specs.declared.shift.Target.{Target}
-use Rattle.timeline_undo.specs.declared.shift.Target.TheVariants.{At, Into}
+use Rattle.retro_base.specs.declared.target.Target.{Target}
+use Rattle.retro_base.specs.declared.target.Target.TheVariants.{At, Into}
 use Rattle.timeline_undo.specs.KeptSteps.{CanBeMadeInTurn, steps_of, undone_steps_of}
 use Rattle.timeline_undo.specs.Replaced.{Replaces, before_without, replaced, replacement_of, step_of_replacement}
 use Rattle.timeline_undo.specs.declared.error.EditError.{EditError}
@@ -30,7 +30,7 @@ use Rattle.timeline_undo.specs.declared.turn.Turn.{Turn}
 use Rattle.timeline_undo.specs.declared.turn.Turns.{Turns}
 use Rattle.timeline_undo.specs.declared.turn.Turns.TheVariants.{Single, Double}
 use Rattle.timeline_undo.specs.Session.{FailsFirst, HasRoom, IsLeftByShift, IsShiftUnmade, IsStepCause, IsUnmade, SessionState, step_reported}
-use Rattle.timeline_undo.specs.Shift.{IsTargetOf, index_after, place_for, put_then_cut, cut_then_put, replacing, shift_at, shift_of}
+use Rattle.retro_base.specs.Shift.{IsTargetOf, index_after, place_for, put_then_cut, cut_then_put, replacing, shift_at, shift_of}
 use Rattle.timeline_undo.proofs.InTurn.{timeline_later}
 use Rattle.timeline_undo.proofs.Replaced.{edited_is_replaced, replacement_is_shift}
 use Rattle.timeline_undo.proofs.Steps.{place_within, stands_after_put, within_of}

@@ -9,10 +9,10 @@ use Rattle.retro_base.specs.declared.row.Row.{Row}
 use Rattle.retro_base.specs.Edits.{Step, cut, edited, edited_by, inverse, inverse_step}
 use Rattle.retro_base.specs.EditedLists.{can_go_back, there_and_back}
 use Rattle.retro_base.specs.Kind.{adds}
-use Rattle.timeline_undo.specs.declared.shift.Target.{Target}
-use Rattle.timeline_undo.specs.declared.shift.Target.TheVariants.{At, Into}
+use Rattle.retro_base.specs.declared.target.Target.{Target}
+use Rattle.retro_base.specs.declared.target.Target.TheVariants.{At, Into}
 use Rattle.timeline_undo.specs.Back.{CanBeMade}
-use Rattle.timeline_undo.specs.Shift.{index_after, place_for, replacing, shift_of}
+use Rattle.retro_base.specs.Shift.{index_after, place_for, replacing, shift_of}
 
 -- a step that was made and taken back leads to the rows from before it
 pub step_and_back : (rows : List Row) (step : Step) → CanBeMade rows step → edited_by (edited_by rows step) (inverse_step step) ≡ rows

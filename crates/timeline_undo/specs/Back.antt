@@ -2,10 +2,10 @@
 use Rattle.std.specs.Prelude.{◌≡◌, ℕ, List, Some, [], ◌∷◌, slice_get}
 use Rattle.retro_base.specs.declared.row.Row.{Row}
 use Rattle.retro_base.specs.Edits.{Step, edited, edited_by, IsWithin}
-use Rattle.timeline_undo.specs.declared.shift.Target.{Target}
-use Rattle.timeline_undo.specs.History.{newest_step, recorded}
+use Rattle.retro_base.specs.declared.target.Target.{Target}
+use Rattle.retro_base.specs.History.{newest_step, recorded}
 use Rattle.timeline_undo.specs.Session.{SessionState, with_undo, with_redo}
-use Rattle.timeline_undo.specs.Shift.{shift_of}
+use Rattle.retro_base.specs.Shift.{shift_of}
 
 -- the session after an accepted step, where this number comes next: the same as before for a cut, and one more for an insert or a shift
 abbrev pub after_step : SessionState → Step → ℕ → SessionState

@@ -1,6 +1,6 @@
 pub use Rattle.retro_base.specs.Edits
-pub mod History
-pub mod Shift
+pub use Rattle.retro_base.specs.History
+pub use Rattle.retro_base.specs.Shift
 pub mod Session
 pub mod KeptSteps
 pub mod WalkCounts

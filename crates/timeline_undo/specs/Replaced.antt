@@ -5,8 +5,8 @@ use Rattle.retro_base.specs.declared.row.Row.{Row}
 use Rattle.retro_base.specs.Edits.{Step}
 use Rattle.retro_base.specs.Kind.{adds, kind_of}
 use Rattle.timeline_undo.specs.declared.replacement.Replacement.{Replacement}
-use Rattle.timeline_undo.specs.declared.shift.Target.{Target}
-use Rattle.timeline_undo.specs.Shift.{place_for, put_then_cut, cut_then_put, replacing}
+use Rattle.retro_base.specs.declared.target.Target.{Target}
+use Rattle.retro_base.specs.Shift.{place_for, put_then_cut, cut_then_put, replacing}
 
 -- the new row stands after so many of the present rows, the old one among them
 abbrev pub replacement_of : List Row → Target → ℕ → ℕ → Row → Replacement

@@ -15,9 +15,9 @@ use Rattle.timeline_undo.specs.declared.error.UndoError.TheVariants as undos
 use Rattle.timeline_undo.specs.declared.turn.Turn.{Turn}
 use Rattle.timeline_undo.specs.declared.turn.Turns.{Turns}
 use Rattle.timeline_undo.specs.declared.turn.Turns.TheVariants.{Single, Double}
-use Rattle.timeline_undo.specs.declared.shift.Target.{Target}
-use Rattle.timeline_undo.specs.History.{History, no_history, recorded, undone, redone}
-use Rattle.timeline_undo.specs.Shift.{shift_at}
+use Rattle.retro_base.specs.declared.target.Target.{Target}
+use Rattle.retro_base.specs.History.{History, no_history, recorded, undone, redone}
+use Rattle.retro_base.specs.Shift.{shift_at}
 
 -- what a session is seen as: a kind, rows, the number that the next row draws, a history, and whether it is spent
 pub record SessionState : Type 0 where

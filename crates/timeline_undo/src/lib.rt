@@ -15,7 +15,7 @@
 //! the items, or looks after the two keys of a dictionary, and names the first row that could not be performed.
 //!
 //! What the layer above may rely on: a session is seen as a kind, rows, the number that the next row draws, and a
-//! history (`specs/Session.antt`, `specs/History.antt`, `specs/Shift.antt`); `EditError::Fails` comes exactly where the
+//! history (`specs/Session.antt`, over `History.antt` and `Shift.antt` of `retro_base`); `EditError::Fails` comes exactly where the
 //! edited rows do not replay, and `UndoError::Nothing` exactly where there is no such step. That an undo always replays is
 //! no test but a fact, which the invariant keeps: every step leads to rows that stood before. After every error all is as
 //! before, but where `spent` is true afterwards: memory ran out between the two list edits of a step. Such a session has
@@ -28,7 +28,7 @@
 //! | `shift` | that twice; a walk over all rows too, where the rows do not replay or one search does not show that they do |
 //! | `ask_now`, `ask`, `all` | those of the structure |
 //!
-//! - `session`: the type and its calls. `turn`, `shift`, `error`: what they take and answer.
+//! - `session`: the type and its calls. `turn`, `error`: what they tell and answer. `Target` is handed on from `retro_base`.
 //! - `edit`, `history`, `failing`: an edit in both lists and what takes it back, the rings of the history, the row that fails.
 //! - `replacement`, `scan`, `walk_count`: a row that is to be replaced, the search and the walk that judge it, what the walk counts.
 //! - `laws`: an undo leads back.
@@ -42,11 +42,10 @@ pub mod laws;
 mod replacement;
 mod scan;
 mod session;
-mod shift;
 mod turn;
 mod walk_count;
 
 pub use error::{EditError, UndoError};
+pub use retro_base::Target;
 pub use session::{MAX_STEPS, Session};
-pub use shift::Target;
 pub use turn::{Put, Turn, Turns};

@@ -6,7 +6,7 @@ ghost use Rattle.retro_base.specs.Timeline.{IsReplayable};
 ghost use Rattle.timeline_undo.specs.KeptSteps.{AreReady, IsLeftMidway};
 ghost use Rattle.timeline_undo.specs.Replaced.{before_without, replacement_of, step_of_replacement};
 ghost use Rattle.timeline_undo.specs.Session.{AreMade, step_reported};
-ghost use Rattle.timeline_undo.specs.Shift.{cut_then_put, index_after, put_then_cut};
+ghost use Rattle.retro_base.specs.Shift.{cut_then_put, index_after, put_then_cut};
 
 use crate::edit::{Interrupted, put_in_both, take_from_both};
 use crate::{Target, Turns};

@@ -9,9 +9,9 @@ ghost use Rattle.retro_base.specs.MadeEdits.{IsMade};
 ghost use Rattle.retro_base.specs.Questions.{suits};
 ghost use Rattle.retro_base.specs.Replay.{present, state_at};
 ghost use Rattle.retro_base.specs.Timeline.{IsTimeline};
-ghost use Rattle.timeline_undo.specs.History.{newest_step, no_history};
+ghost use Rattle.retro_base.specs.History.{newest_step, no_history};
 ghost use Rattle.timeline_undo.specs.Session.{AreMade, CanStand, drawn, edit_reported, HasRoom, IsCause, IsLeftByUndo, IsShiftUnmade, step_reported, with_edit, with_insert, with_redo, with_shift, with_undo};
-ghost use Rattle.timeline_undo.specs.Shift.{IsTargetOf, shift_at};
+ghost use Rattle.retro_base.specs.Shift.{IsTargetOf, shift_at};
 ghost use Rattle.timeline_undo.specs.declared.turn.Turn.{Turn};
 ghost use Rattle.timeline_undo.specs.declared.turn.Turns.TheVariants.{Double};
 

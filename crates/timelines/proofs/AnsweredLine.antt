@@ -6,12 +6,12 @@ use Rattle.script_grammar.specs.declared.command.Moment.{Moment}
 use Rattle.script_grammar.specs.declared.command.Query.{Query}
 use Rattle.script_grammar.specs.declared.command.Spot.{Spot}
 use Rattle.retro_base.specs.declared.op.Op.{Op}
-use Rattle.timelines.specs.declared.outcome.Outcome.{Outcome}
-use Rattle.timelines.specs.declared.outcome.Outcome.TheVariants.{Silent}
-use Rattle.timelines.specs.Bench.{NamedTimeline}
-use Rattle.timelines.specs.Outcome.{is_refusal, reply_text}
-use Rattle.timelines.specs.Reaction.{Effect}
-use Rattle.timelines.specs.TimelineEffects.{TimelineEffect, unchanged}
+use Rattle.reactions.specs.declared.outcome.Outcome.{Outcome}
+use Rattle.reactions.specs.declared.outcome.Outcome.TheVariants.{Silent}
+use Rattle.reactions.specs.Bench.{NamedTimeline}
+use Rattle.reactions.specs.Outcome.{is_refusal, reply_text}
+use Rattle.reactions.specs.Reaction.{Effect}
+use Rattle.reactions.specs.TimelineEffects.{TimelineEffect, unchanged}
 use Rattle.timelines.specs.AnsweredLine.{IsTold, performs, performs_other, told}
 
 -- the outcome of the effect was told

@@ -1,6 +1,7 @@
 -- What is answered of the fate of what a row put in.
 use Rattle.std.proofs.Common.{◌≡◌, ℕ, zero, suc, ◌+◌, ◌-◌, ◌<◌, ◌≤◌, true, false, List, [], ◌∷◌, drop, arith, length, slice_get, refl, sym, subst, Option, Some, None}
-use Rattle.fates.specs.Fates.{IsFate, IsTakenAt, holders, holds}
+use Rattle.fates.specs.Fates.{IsFate, IsTakenAt}
+use Rattle.retro_base.specs.Holders.{holders, holds}
 use Rattle.fates.specs.declared.fate.Fate.{Fate}
 use Rattle.fates.specs.declared.fate.Fate.TheVariants as fates
 use Rattle.retro_base.specs.declared.kind.Kind.{Kind}
@@ -9,10 +10,10 @@ use Rattle.retro_base.specs.Kind.{adds, kind_of}
 use Rattle.retro_base.specs.OrderLaws.{all_at}
 use Rattle.retro_base.specs.Places.{place_of_row}
 use Rattle.retro_base.specs.Timeline.{IsReplayable}
-use Rattle.timelines.specs.declared.outcome.Outcome.TheVariants.{Taken, Stays, Refused}
-use Rattle.timelines.specs.declared.outcome.Refusal.TheVariants as refusals
-use Rattle.timelines.specs.Bench.{NamedTimeline}
-use Rattle.timelines.specs.TimelineEffects.{answers_fate, fate_from}
+use Rattle.reactions.specs.declared.outcome.Outcome.TheVariants.{Taken, Stays, Refused}
+use Rattle.reactions.specs.declared.outcome.Refusal.TheVariants as refusals
+use Rattle.reactions.specs.Bench.{NamedTimeline}
+use Rattle.reactions.specs.TimelineEffects.{answers_fate, fate_from}
 
 -- the rows from a place on
 none_later : (rows : List Row) (place : ℕ) → drop place rows ≡ [] → length rows ≤ place

@@ -6,9 +6,10 @@ use Rattle.std.proofs.lemmas.List.{get_or-map, map-set, length-map}
 use Rattle.std.proofs.lemmas.List.Quantifiers.{position-Some}
 use Rattle.std.proofs.lemmas.Iterator.Adapters.{position_from-zero}
 use Rattle.timeline_undo.specs.Session.{SessionState}
-use Rattle.timelines.specs.Bench.{KeptTimeline, NamedTimeline, IsUnspent, has_timeline, is_kept_as, is_named, kept_over, named, shown, timeline_of}
-use Rattle.timelines.specs.Reaction.{on_named}
-use Rattle.timelines.specs.TimelineEffects.{TimelineEffect}
+use Rattle.reactions.specs.Bench.{NamedTimeline, has_timeline, is_named, timeline_of}
+use Rattle.timelines.specs.Kept.{KeptTimeline, IsUnspent, is_kept_as, kept_over, named, shown}
+use Rattle.reactions.specs.Reaction.{on_named}
+use Rattle.reactions.specs.TimelineEffects.{TimelineEffect}
 use Rattle.timelines.specs.AnsweredLine.{IsTold, told}
 use Rattle.timelines.proofs.Named.{on_named_found, session_found}
 use Rattle.timelines.proofs.AnsweredLine.{told_of_all}

@@ -15,7 +15,7 @@ use Rattle.retro_base.specs.ReplayableLaws.{replayable_with}
 use Rattle.retro_base.specs.State.{empty, step}
 use Rattle.retro_base.specs.Timeline.{IsTimeline}
 use Rattle.retro_base.specs.lemmas.Folds.{fold_rows-nil}
-use Rattle.timelines.specs.Reported.{evidence_of, evidence_of_step, appends_from, loaded_evidence, noted}
+use Rattle.reactions.specs.Reported.{evidence_of, evidence_of_step, appends_from, loaded_evidence, noted}
 
 -- the first rows of a timeline are one, with no row and with one more
 pub timeline_begins : (kind : Kind) (rows : List Row) (next : ℕ) → IsTimeline kind rows next → IsTimeline kind [] next

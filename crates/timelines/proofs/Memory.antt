@@ -2,27 +2,28 @@
 use Rattle.std.proofs.Common.{◌≡◌, ℕ, ◌+◌, ◌<◌, false, List, [], ◌∷◌, length, slice_get, refl, sym, subst, arith, Option, Some, None, Result, Ok, Err, OnErr}
 use Rattle.std.specs.Prelude.{option_map, IfSome}
 use Rattle.std.proofs.lemmas.Bool.{lt-leb}
-use Rattle.retro_base.specs.declared.memory.NoMemory.{NoMemory}
+use Rattle.costs.specs.declared.memory.NoMemory.{NoMemory}
 use Rattle.retro_base.specs.declared.row.Row.{Row}
 use Rattle.retro_base.specs.Edits.{Edit, Step, cut, edited_by, inverse_step}
 use Rattle.retro_base.specs.Limits.{most_rows, next_limit}
 use Rattle.retro_base.specs.Places.{place_of_row}
 use Rattle.retro_base.specs.Replay.{failure}
-use Rattle.timeline_undo.specs.History.{newest_step}
+use Rattle.retro_base.specs.History.{newest_step}
 use Rattle.timeline_undo.specs.Session.{SessionState, IsCause, IsLeftByUndo, IsShiftUnmade, IsUnmade}
-use Rattle.timeline_undo.specs.Shift.{shift_at}
+use Rattle.retro_base.specs.Shift.{shift_at}
 use Rattle.timeline_undo.specs.declared.error.EditError.{EditError}
 use Rattle.timeline_undo.specs.declared.error.EditError.TheVariants as errors
 use Rattle.timeline_undo.specs.declared.error.UndoError.{UndoError}
 use Rattle.timeline_undo.specs.declared.error.UndoError.TheVariants as undos
-use Rattle.timeline_undo.specs.declared.shift.Target.{Target}
-use Rattle.timelines.specs.declared.outcome.Outcome.{Outcome}
-use Rattle.timelines.specs.declared.outcome.Outcome.TheVariants.{Accepted, Inserted}
-use Rattle.timelines.specs.Bench.{NamedTimeline, named}
+use Rattle.retro_base.specs.declared.target.Target.{Target}
+use Rattle.reactions.specs.declared.outcome.Outcome.{Outcome}
+use Rattle.reactions.specs.declared.outcome.Outcome.TheVariants.{Accepted, Inserted}
+use Rattle.reactions.specs.Bench.{NamedTimeline}
+use Rattle.timelines.specs.Kept.{named}
 use Rattle.timelines.specs.EditErrors.{IsRefusedBy}
-use Rattle.timelines.specs.Outcome.{is_refusal}
-use Rattle.timelines.specs.TimelineEffects.{TimelineEffect, deletes, edits, makes, redoes, shifts, shifts_there, undoes}
-use Rattle.timelines.specs.ReactionLaws.{reported_is_no_refusal}
+use Rattle.reactions.specs.Outcome.{is_refusal}
+use Rattle.reactions.specs.TimelineEffects.{TimelineEffect, deletes, edits, makes, redoes, shifts, shifts_there, undoes}
+use Rattle.reactions.specs.ReactionLaws.{reported_is_no_refusal}
 use Rattle.timelines.proofs.TimelineEffects.{at_step, deletes_there, makes_accepted, redoes_newest, shifts_makes, shifts_step, slice_get_none, step_there, undoes_newest}
 use Rattle.retro_base.specs.Facts.{one_value}
 

@@ -4,13 +4,14 @@ use Rattle.std.specs.List.{position_from}
 use Rattle.std.proofs.lemmas.List.Quantifiers.{position-Some}
 use Rattle.std.proofs.lemmas.Iterator.Adapters.{position_from-zero}
 use Rattle.retro_base.specs.Limits.{most_timelines}
-use Rattle.timelines.specs.declared.outcome.Outcome.TheVariants.{Refused}
-use Rattle.timelines.specs.declared.outcome.Refusal.TheVariants as refusals
+use Rattle.reactions.specs.declared.outcome.Outcome.TheVariants.{Refused}
+use Rattle.reactions.specs.declared.outcome.Refusal.TheVariants as refusals
 use Rattle.std.proofs.lemmas.Slice.Eq.{bytes_eq-Decides}
 use Rattle.timeline_undo.specs.Session.{SessionState}
-use Rattle.timelines.specs.Bench.{NamedTimeline, is_named, has_timeline, named, timeline_of}
-use Rattle.timelines.specs.Reaction.{Effect, leaves, if_startable, with_first, on_named}
-use Rattle.timelines.specs.TimelineEffects.{TimelineEffect}
+use Rattle.reactions.specs.Bench.{NamedTimeline, is_named, has_timeline, timeline_of}
+use Rattle.timelines.specs.Kept.{named}
+use Rattle.reactions.specs.Reaction.{Effect, leaves, if_startable, with_first, on_named}
+use Rattle.reactions.specs.TimelineEffects.{TimelineEffect}
 use Rattle.retro_base.specs.Facts.{some_is_not_none}
 
 pub taken_name : (timelines : List NamedTimeline) (name : List ℕ) (effect : Effect) → has_timeline name timelines ≡ true

@@ -8,9 +8,9 @@ use Rattle.retro_base.specs.ChangeLaws.{OneChangeOfPq}
 use Rattle.retro_base.specs.Changes.{change_of}
 use Rattle.retro_base.specs.Edits.{Edit, edited}
 use Rattle.retro_base.specs.MadeEdits.{IsMade, pq_edit_of}
-use Rattle.timelines.specs.declared.outcome.Outcome.{Outcome}
-use Rattle.timelines.specs.declared.outcome.Outcome.TheVariants.{Changed}
-use Rattle.timelines.specs.Reported.{evidence_with, evidence_of_step, noted, reported}
+use Rattle.reactions.specs.declared.outcome.Outcome.{Outcome}
+use Rattle.reactions.specs.declared.outcome.Outcome.TheVariants.{Changed}
+use Rattle.reactions.specs.Reported.{evidence_with, evidence_of_step, noted, reported}
 
 -- its change is the one
 change_named : OneChangeOfPq → (rows : List Row) (edit : Edit) (change : Change) → IsMade Pq rows edit change → change ≡ change_of Pq rows edit

@@ -18,7 +18,7 @@ use Rattle.retro_base.specs.Answers.{answer_of}
 use Rattle.retro_base.specs.Replay.{fold_rows, one_later, present, run}
 use Rattle.retro_base.specs.State.{State, items, pairs, entries, empty, perform, step, without_first, without_key, without_last}
 use Rattle.retro_base.specs.lemmas.CountedEntries.{with_length}
-use Rattle.timelines.specs.Bench.{size_of}
+use Rattle.reactions.specs.Bench.{size_of}
 use Rattle.retro_base.specs.lemmas.CountedKeys.{put_length}
 
 -- the answer to the question of size

@@ -8,10 +8,10 @@ use Rattle.retro_base.specs.declared.question.Question.{Question}
 use Rattle.retro_base.specs.declared.row.Row.{Row}
 use Rattle.retro_base.specs.Edits.{Edit, Step, add, cut, edited, edited_by, inverse_step}
 use Rattle.retro_base.specs.Limits.{most_rows, next_limit}
-use Rattle.timeline_undo.specs.History.{newest_step}
-use Rattle.timeline_undo.specs.Shift.{shift_at, shift_of}
-use Rattle.timeline_undo.specs.declared.shift.Target.{Target}
-use Rattle.timeline_undo.specs.declared.shift.Target.TheVariants.{Into}
+use Rattle.retro_base.specs.History.{newest_step}
+use Rattle.retro_base.specs.Shift.{shift_at, shift_of}
+use Rattle.retro_base.specs.declared.target.Target.{Target}
+use Rattle.retro_base.specs.declared.target.Target.TheVariants.{Into}
 use Rattle.timeline_undo.specs.Session.{SessionState, AreMade, FailsFirst, IsCause, IsLeftByUndo, IsShiftUnmade, IsUnmade, step_reported}
 use Rattle.timeline_undo.specs.declared.turn.Turns.{Turns}
 use Rattle.timeline_undo.specs.declared.turn.Turns.TheVariants.{Single, Double}
@@ -19,7 +19,7 @@ use Rattle.timeline_undo.specs.declared.error.UndoError.{UndoError}
 use Rattle.timeline_undo.specs.declared.error.UndoError.TheVariants as undos
 use Rattle.timeline_undo.specs.declared.error.EditError.{EditError}
 use Rattle.timeline_undo.specs.declared.error.EditError.TheVariants as errors
-use Rattle.retro_base.specs.declared.memory.NoMemory.{NoMemory}
+use Rattle.costs.specs.declared.memory.NoMemory.{NoMemory}
 use Rattle.timelines.specs.EditErrors.{IsRefusedBy}
 use Rattle.retro_base.specs.Kind.{kind_of, same_kind}
 use Rattle.retro_base.specs.Replay.{failure, present, state_at}
@@ -31,15 +31,16 @@ use Rattle.script_grammar.specs.declared.command.Spot.{Spot}
 use Rattle.script_grammar.specs.declared.command.Spot.TheVariants.{At, Before, After}
 use Rattle.script_grammar.specs.declared.command.Moment.TheVariants.{Now, Then}
 use Rattle.script_grammar.specs.declared.command.Query.TheVariants.{One, All}
-use Rattle.timelines.specs.declared.outcome.Outcome.{Outcome}
-use Rattle.timelines.specs.declared.outcome.Outcome.TheVariants.{Accepted, Answered, Inserted, Listed, Refused}
-use Rattle.timelines.specs.declared.outcome.Refusal.TheVariants as refusals
-use Rattle.timelines.specs.declared.position.Position.{Position}
-use Rattle.timelines.specs.Bench.{NamedTimeline, named}
+use Rattle.reactions.specs.declared.outcome.Outcome.{Outcome}
+use Rattle.reactions.specs.declared.outcome.Outcome.TheVariants.{Accepted, Answered, Inserted, Listed, Refused}
+use Rattle.reactions.specs.declared.outcome.Refusal.TheVariants as refusals
+use Rattle.reactions.specs.declared.position.Position.{Position}
+use Rattle.reactions.specs.Bench.{NamedTimeline}
+use Rattle.timelines.specs.Kept.{named}
 use Rattle.std.proofs.lemmas.Bool.{lt-leb}
 use Rattle.retro_base.specs.Order.{Fits}
-use Rattle.timelines.specs.TimelineEffects.{TimelineEffect, refuses, row_named, position_before, next_position, position_of, inserts_there, new_row, after_step, makes, edits, where_one_fits}
-use Rattle.timelines.specs.TimelineEffects.{tells, inserts, deletes, shifts_there, shifts_by, shifts, changes, answers, undoes_step, undoes, redoes_step, redoes}
+use Rattle.reactions.specs.TimelineEffects.{TimelineEffect, refuses, row_named, position_before, next_position, position_of, inserts_there, new_row, after_step, makes, edits, where_one_fits}
+use Rattle.reactions.specs.TimelineEffects.{tells, inserts, deletes, shifts_there, shifts_by, shifts, changes, answers, undoes_step, undoes, redoes_step, redoes}
 use Rattle.retro_base.specs.OrderLaws.{time_fits, fits_before, fits_after}
 use Rattle.retro_base.specs.Facts.{one_value}
 

@@ -4,13 +4,13 @@ use Rattle.std.specs.Prelude.{◌≡◌, ℕ, Bool, List, ◌++◌, Result, Ok, 
 use Rattle.retro_base.specs.declared.question.Answer.{Answer}
 use Rattle.script_grammar.specs.declared.command.Command.{Command}
 use Rattle.script_grammar.specs.declared.command.Command.TheVariants.{Insert, Delete, Move, Change, Fate, Ask, Undo, Redo, Save}
-use Rattle.timelines.specs.declared.outcome.Outcome.{Outcome}
-use Rattle.timelines.specs.declared.outcome.Outcome.TheVariants.{Answered, Refused, Silent}
-use Rattle.timelines.specs.declared.outcome.Refusal.{Refusal}
-use Rattle.timelines.specs.Bench.{NamedTimeline}
-use Rattle.timelines.specs.Outcome.{is_refusal, reply_text}
-use Rattle.timelines.specs.Reaction.{Effect}
-use Rattle.timelines.specs.TimelineEffects.{TimelineEffect, unchanged, inserts, deletes, moves, changes, answers, answers_fate, undoes, redoes, saves}
+use Rattle.reactions.specs.declared.outcome.Outcome.{Outcome}
+use Rattle.reactions.specs.declared.outcome.Outcome.TheVariants.{Answered, Refused, Silent}
+use Rattle.reactions.specs.declared.outcome.Refusal.{Refusal}
+use Rattle.reactions.specs.Bench.{NamedTimeline}
+use Rattle.reactions.specs.Outcome.{is_refusal, reply_text}
+use Rattle.reactions.specs.Reaction.{Effect}
+use Rattle.reactions.specs.TimelineEffects.{TimelineEffect, unchanged, inserts, deletes, moves, changes, answers, answers_fate, undoes, redoes, saves}
 
 -- the timelines afterwards, the lines that answer, and whether they are a refusal
 pub record AnsweredLine : Type 0 where

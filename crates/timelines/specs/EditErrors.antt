@@ -1,11 +1,11 @@
 -- What a line is answered whose edit does not stand.
 use Rattle.std.specs.Prelude.{◌≡◌, Result, Ok}
-use Rattle.retro_base.specs.declared.memory.NoMemory.{NoMemory}
+use Rattle.costs.specs.declared.memory.NoMemory.{NoMemory}
 use Rattle.timeline_undo.specs.declared.error.EditError.{EditError}
 use Rattle.timeline_undo.specs.declared.error.EditError.TheVariants as errors
-use Rattle.timelines.specs.declared.outcome.Outcome.{Outcome}
-use Rattle.timelines.specs.declared.outcome.Outcome.TheVariants.{Refused}
-use Rattle.timelines.specs.declared.outcome.Refusal.TheVariants as refusals
+use Rattle.reactions.specs.declared.outcome.Outcome.{Outcome}
+use Rattle.reactions.specs.declared.outcome.Outcome.TheVariants.{Refused}
+use Rattle.reactions.specs.declared.outcome.Refusal.TheVariants as refusals
 
 -- the row that fails is named; out of memory is no answer
 abbrev pub IsRefusedBy : EditError → Result Outcome NoMemory → Type 0

@@ -1,12 +1,5 @@
-pub use Rattle.retro_base.specs.Kind
-pub use Rattle.script_grammar.specs.Command
-pub mod Bench
+pub use Rattle.reactions.specs.Bench
+pub mod Kept
 pub mod EditErrors
-pub mod Outcome
-pub mod Reported
-pub mod TimelineEffects
-pub mod Reaction
 pub mod AnsweredLine
 pub mod OpenBlocks
-pub mod ReactionLaws
-pub mod Answers

@@ -4,9 +4,10 @@ use Rattle.retro_base.specs.declared.row.Row.{Row}
 use Rattle.timeline_file.specs.declared.block.BlockError.{BlockError}
 use Rattle.timeline_file.specs.Block.{finished}
 use Rattle.timelines.specs.declared.loading.LoadedTimeline.{LoadedTimeline}
-use Rattle.timelines.specs.Bench.{OpenBlock, unspent}
-use Rattle.timelines.specs.Reaction.{of_block}
-use Rattle.timelines.specs.Reported.{loaded_evidence}
+use Rattle.reactions.specs.Bench.{OpenBlock}
+use Rattle.timelines.specs.Kept.{unspent}
+use Rattle.reactions.specs.Reaction.{of_block}
+use Rattle.reactions.specs.Reported.{loaded_evidence}
 
 -- the timeline of the rows that the block comes to, or what is wrong with it
 abbrev pub ComesToTimeline : {S : Type 0} → OpenBlock → Bool → Result (LoadedTimeline S) BlockError → Type 0

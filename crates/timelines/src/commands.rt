@@ -9,7 +9,7 @@ use timeline_undo::Target;
 
 impl<R: AnyStructure> NamedTimeline<R> {
     ghost use Rattle.timelines.specs.AnsweredLine.{IsTold, performs, performs_other};
-    ghost use Rattle.timelines.specs.Bench.{IsUnspent};
+    ghost use Rattle.timelines.specs.Kept.{IsUnspent};
 
     /// Does what a command asks of the timeline; one that is about none leaves it as it is. Appends the answer, and gives whether it is
     /// a refusal. Questions and the edits of one row are most lines, so they come first, and each stands in a function that is not inlined:

@@ -6,22 +6,22 @@ ghost use Rattle.retro_base.specs.declared.row.Row.{Row};
 ghost use Rattle.retro_base.specs.Edits.{Step};
 ghost use Rattle.retro_base.specs.MadeEdits.{IsMade};
 ghost use Rattle.timeline_undo.specs.Session.{AreMade, HasRoom, edit_reported, step_reported};
-ghost use Rattle.timeline_undo.specs.Shift.{IsTargetOf, shift_at};
-ghost use Rattle.timelines.specs.Reported.{reported};
+ghost use Rattle.retro_base.specs.Shift.{IsTargetOf, shift_at};
+ghost use Rattle.reactions.specs.Reported.{reported};
 ghost use Rattle.timelines.specs.EditErrors.{IsRefusedBy};
 
 use crate::named_timeline::{NamedTimeline, no_row};
-use crate::outcome::{Outcome, Refusal};
 use crate::position::{position_of, row_named};
 use crate::reported::{reported, reported_both};
+use reactions::{Outcome, Refusal};
 use retro_base::{AnyStructure, MAX_NEXT, MAX_ROWS, NoMemory, Op};
 use script_grammar::Spot;
 use timeline_undo::{EditError, Target, Turn, Turns, UndoError};
 
 impl<R: AnyStructure> NamedTimeline<R> {
-    ghost use Rattle.timelines.specs.Bench.{IsUnspent};
-    ghost use Rattle.timelines.specs.Outcome.{is_refusal};
-    ghost use Rattle.timelines.specs.TimelineEffects.{TimelineEffect, changes, deletes, inserts, refuses, shifts, shifts_there, undoes, redoes, where_one_fits};
+    ghost use Rattle.timelines.specs.Kept.{IsUnspent};
+    ghost use Rattle.reactions.specs.Outcome.{is_refusal};
+    ghost use Rattle.reactions.specs.TimelineEffects.{TimelineEffect, changes, deletes, inserts, refuses, shifts, shifts_there, undoes, redoes, where_one_fits};
 
     /// Puts a row in at a spot, where the edited rows replay whole. After a refusal and after `NoMemory`
     /// all is as before.

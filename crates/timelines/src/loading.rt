@@ -1,13 +1,13 @@
 //! A timeline that a block makes, with the evidence of its rows.
 
 ghost use Rattle.std.specs.Prelude.{◌≡◌, [], IfOk, OnOk};
-ghost use Rattle.timelines.specs.Bench.{loaded_session};
-ghost use Rattle.timelines.specs.Reported.{loaded_evidence};
+ghost use Rattle.timelines.specs.Kept.{loaded_session};
+ghost use Rattle.reactions.specs.Reported.{loaded_evidence};
 ghost use Rattle.retro_base.specs.Timeline.{IsTimeline};
 
-use crate::evidence_lines::EvidenceLines;
 use crate::named_timeline::NamedTimeline;
 use crate::reported::note;
+use reactions::EvidenceLines;
 use retro_base::{AnyStructure, Kind, Name, NoMemory, Retro, Rows};
 use std::alloc::Global;
 use timeline_undo::Session;
@@ -20,7 +20,8 @@ pub(crate) struct LoadedTimeline<R: AnyStructure> {
 }
 
 impl<R: AnyStructure> NamedTimeline<R> {
-    ghost use Rattle.timelines.specs.Bench.{unspent, with_rows};
+    ghost use Rattle.reactions.specs.Bench.{with_rows};
+    ghost use Rattle.timelines.specs.Kept.{unspent};
 
     /// The timeline of a block that came to these rows.
     pub(crate) fn of_block(

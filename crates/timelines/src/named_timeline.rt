@@ -1,10 +1,10 @@
 //! A timeline with its name, and the session that keeps its rows.
 
 ghost use Rattle.std.specs.Prelude.{◌≡◌, true, IfOk};
-ghost use Rattle.timelines.specs.declared.outcome.Outcome.TheVariants.{Refused};
-ghost use Rattle.timelines.specs.declared.outcome.Refusal.TheVariants.{NoRow};
+ghost use Rattle.reactions.specs.declared.outcome.Outcome.TheVariants.{Refused};
+ghost use Rattle.reactions.specs.declared.outcome.Refusal.TheVariants.{NoRow};
 
-use crate::outcome::{Outcome, Refusal};
+use reactions::{Outcome, Refusal};
 use retro_base::{AnyStructure, Kind, Name, NoMemory};
 use std::alloc::Global;
 use std::marker::Model;
@@ -19,7 +19,7 @@ pub(crate) struct NamedTimeline<R: AnyStructure> {
 }
 
 impl<R: AnyStructure> Model for NamedTimeline<R> {
-    ghost use Rattle.timelines.specs.Bench.{KeptTimeline, kept_over};
+    ghost use Rattle.timelines.specs.Kept.{KeptTimeline, kept_over};
 
     ghost Value = { KeptTimeline };
 
@@ -27,7 +27,8 @@ impl<R: AnyStructure> Model for NamedTimeline<R> {
 }
 
 impl<R: AnyStructure> NamedTimeline<R> {
-    ghost use Rattle.timelines.specs.Bench.{fresh, is_kept_as, kept_over, unspent};
+    ghost use Rattle.reactions.specs.Bench.{fresh};
+    ghost use Rattle.timelines.specs.Kept.{is_kept_as, kept_over, unspent};
 
     /// A timeline without rows. A fused one is a priority queue that is held as a product of pieces.
     pub(crate) fn new(

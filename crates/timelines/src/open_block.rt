@@ -3,7 +3,7 @@
 ghost use Rattle.std.specs.Prelude.{◌≡◌, ◌≤◌, length, true, is_ok, IsTrue, IfOk, OnOk, OnErr, Ok, Err};
 ghost use Rattle.retro_base.specs.Limits.{longest_line, next_limit};
 ghost use Rattle.timeline_file.specs.Block.{begun, finished};
-ghost use Rattle.timelines.specs.Reaction.{of_block, with_line};
+ghost use Rattle.reactions.specs.Reaction.{of_block, with_line};
 ghost use Rattle.timelines.specs.OpenBlocks.{ComesToTimeline};
 
 use crate::loading::LoadedTimeline;
@@ -23,7 +23,7 @@ pub struct OpenBlock {
 impl Model for OpenBlock {
     ghost use Rattle.std.specs.Prelude.{◌≤◌};
     ghost use Rattle.retro_base.specs.Limits.{next_limit};
-    ghost use Rattle.timelines.specs.Bench as specs;
+    ghost use Rattle.reactions.specs.Bench as specs;
 
     ghost Value = { specs.OpenBlock };
 

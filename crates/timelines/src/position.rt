@@ -2,17 +2,11 @@
 
 ghost use Rattle.std.specs.Prelude.{◌≡◌, ◌≤◌, ◌<◌, length, IfSome};
 ghost use Rattle.retro_base.specs.Limits.{most_rows};
-ghost use Rattle.timelines.specs.TimelineEffects.{row_named, position_before, position_of};
+ghost use Rattle.reactions.specs.TimelineEffects.{row_named, position_before, position_of};
 
 use order_timeline::Timeline;
+use reactions::Position;
 use script_grammar::Spot;
-
-/// Where a row stands: at this place, and at this time.
-#[derive(Clone, Copy)]
-pub struct Position {
-    pub place: u32,
-    pub time: u64,
-}
 
 /// The position of a spot, where it has one.
 pub(crate) fn position_of(timeline: &Timeline, spot: Spot) -> Option<Position>

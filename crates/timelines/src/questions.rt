@@ -6,21 +6,21 @@ ghost use Rattle.retro_base.specs.Questions.{suits};
 ghost use Rattle.retro_base.specs.Replay.{state_at};
 ghost use Rattle.script_grammar.specs.declared.command.Moment.TheVariants.{Then};
 ghost use Rattle.script_grammar.specs.declared.command.Query.TheVariants.{One, All};
-ghost use Rattle.timelines.specs.declared.outcome.Outcome.TheVariants.{Listed, Taken};
+ghost use Rattle.reactions.specs.declared.outcome.Outcome.TheVariants.{Listed, Taken};
 
 use crate::named_timeline::{NamedTimeline, no_row};
-use crate::outcome::{Outcome, Refusal, tell_answer, tell_refusal};
 use crate::position::{position_of, row_named};
 use fates::{Fate, fate_of};
 use order_timeline::Timeline;
+use reactions::{Outcome, Refusal, tell_answer, tell_refusal};
 use retro_base::{Answer, AnyStructure, NoMemory, Question, Row, Rows, Text};
 use script_grammar::{Moment, Query, Spot};
 use std::alloc::Global;
 
 impl<R: AnyStructure> NamedTimeline<R> {
-    ghost use Rattle.timelines.specs.Bench.{IsUnspent};
-    ghost use Rattle.timelines.specs.Outcome.{is_refusal, reply_text};
-    ghost use Rattle.timelines.specs.TimelineEffects.{answers, answers_fate, saves};
+    ghost use Rattle.timelines.specs.Kept.{IsUnspent};
+    ghost use Rattle.reactions.specs.Outcome.{is_refusal, reply_text};
+    ghost use Rattle.reactions.specs.TimelineEffects.{answers, answers_fate, saves};
     ghost use Rattle.timelines.specs.AnsweredLine.{found_or_refused};
 
     /// Writes the answer at a moment, and gives whether the question is refused. The timeline stays as it is, whatever the

@@ -6,11 +6,10 @@ ghost use Rattle.retro_base.specs.Edits.{add};
 ghost use Rattle.retro_base.specs.MadeEdits.{IsMade};
 ghost use Rattle.timeline_undo.specs.Session.{AreMade, edit_reported, step_reported};
 ghost use Rattle.timeline_undo.specs.declared.turn.Turns.TheVariants.{Double};
-ghost use Rattle.timelines.specs.Reported.{evidence_with, noted, reported};
+ghost use Rattle.reactions.specs.Reported.{evidence_with, noted, reported};
 
-use crate::evidence_lines::EvidenceLines;
-use crate::outcome::Outcome;
 use evidence::Evidence;
+use reactions::{EvidenceLines, Outcome};
 use retro_base::laws::one_change_is_named;
 use retro_base::{Change, Kind, Name, NoMemory, Row};
 use std::alloc::Global;

@@ -6,22 +6,20 @@ ghost use Rattle.retro_base.specs.Limits.{most_timelines};
 ghost use Rattle.retro_base.specs.Replay.{present};
 ghost use Rattle.script_grammar.specs.Command.{IsProper};
 ghost use Rattle.timeline_file.specs.Block.{finished};
-ghost use Rattle.timelines.specs.Bench.{IsUnspent, has_timeline, is_kept_as, is_named, named, size_of, timeline_of};
-ghost use Rattle.timelines.specs.Outcome.{is_refusal};
-ghost use Rattle.timelines.specs.Reaction.{closes, loads, obeys, of_block, starts};
+ghost use Rattle.reactions.specs.Bench.{has_timeline, is_named, size_of, timeline_of};
+ghost use Rattle.timelines.specs.Kept.{IsUnspent, is_kept_as, named};
+ghost use Rattle.reactions.specs.Outcome.{is_refusal};
+ghost use Rattle.reactions.specs.Reaction.{closes, loads, obeys, of_block, starts};
 ghost use Rattle.timelines.specs.AnsweredLine.{told};
 
 use crate::named_timeline::NamedTimeline;
 use crate::open_block::OpenBlock;
-use crate::outcome::{Outcome, Refusal, tell_refusal};
+use reactions::{MAX_TIMELINES, Outcome, Refusal, tell_refusal};
 use retro_base::{Answer, AnyStructure, Kind, Name, NoMemory, Question, Retro, Text};
 use script_grammar::{Command, LineError};
 use std::alloc::Global;
 use std::marker::Model;
 use timeline_undo::Session;
-
-/// The most timelines of a bench.
-pub const MAX_TIMELINES: usize = 8;
 
 /// The timelines that a script has made, in the order in which it made them.
 #[derive(Drop)]
@@ -33,7 +31,8 @@ pub struct Timelines<R: AnyStructure> {
 impl<R: AnyStructure> Model for Timelines<R> {
     ghost use Rattle.std.specs.Prelude.{List};
     ghost use Rattle.std.specs.List.{AllByRecursion};
-    ghost use Rattle.timelines.specs.Bench.{IsUnspent, NamedTimeline, shown};
+    ghost use Rattle.reactions.specs.Bench.{NamedTimeline};
+    ghost use Rattle.timelines.specs.Kept.{IsUnspent, shown};
 
     ghost Value = { List NamedTimeline };
 
@@ -43,7 +42,7 @@ impl<R: AnyStructure> Model for Timelines<R> {
 }
 
 impl<R: AnyStructure> Timelines<R> {
-    ghost use Rattle.timelines.specs.Bench.{present_size, row_count};
+    ghost use Rattle.reactions.specs.Bench.{present_size, row_count};
 
     /// No timelines.
     pub fn new(alloc: Global) -> Timelines<R>

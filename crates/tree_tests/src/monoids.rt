@@ -1,6 +1,7 @@
 //! The measures.
 
-use monoid_laws::{Both, Count, Greatest, GreatestPrefix, Least, LeastPrefix, Monoid, Sum};
+use measures::{Both, Count, Greatest, GreatestPrefix, Least, LeastPrefix, Sum};
+use monoid_laws::Monoid;
 
 #[test]
 fn sums_are_exact(rt: HostRuntime) {

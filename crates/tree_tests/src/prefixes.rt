@@ -1,7 +1,7 @@
 //! Signs and their prefixes.
 
-ghost use Rattle.monoid_laws.specs.Walk.{IsSign};
-ghost use Rattle.retro_base.specs.Visits.{OpensCounter};
+ghost use Rattle.measures.specs.Walk.{IsSign};
+ghost use Rattle.costs.specs.Visits.{OpensCounter};
 
 use prefix_trees::SignTree;
 use retro_base::Steps;

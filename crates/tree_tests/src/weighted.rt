@@ -4,11 +4,12 @@ ghost use Rattle.std.specs.Prelude.{◌≡◌, ◌+◌, ◌^◌, ◌<◌, ◌≤
 ghost use Rattle.std.specs.List.{AllWithin};
 ghost use Rattle.std.specs.List.Sorted.{IsNonDecreasingBy};
 ghost use Rattle.std.specs.Int.Signed.{le_z};
-ghost use Rattle.monoid_laws.specs.Summed.{sum_of};
-ghost use Rattle.retro_base.specs.Visits.{OpensCounter, VisitsWithin};
+ghost use Rattle.measures.specs.Summed.{sum_of};
+ghost use Rattle.costs.specs.Visits.{OpensCounter, VisitsWithin};
 ghost use Rattle.weighted_tree.specs.Search.{IsFirstOrNone};
 
-use monoid_laws::{Measured, Monoid, Sum};
+use measures::Sum;
+use monoid_laws::{Measured, Monoid};
 use retro_base::Steps;
 use std::alloc::Global;
 use std::marker::Brand;
@@ -23,7 +24,7 @@ struct Amount {
 
 impl Measured for Amount {
     ghost use Rattle.std.specs.Prelude.{refl};
-    ghost use Rattle.monoid_laws.specs.Summed.{one_sum};
+    ghost use Rattle.measures.specs.Summed.{one_sum};
 
     type Measure = Sum;
 
@@ -155,7 +156,7 @@ struct Piece {
 
 impl Measured for Piece {
     ghost use Rattle.std.specs.Prelude.{pos, refl};
-    ghost use Rattle.monoid_laws.specs.Summed.{one_sum};
+    ghost use Rattle.measures.specs.Summed.{one_sum};
 
     type Measure = Sum;
 

@@ -4,9 +4,9 @@ use Rattle.std.proofs.lemmas.Nat.{pow-add}
 use Rattle.weighted_tree.specs.Balance.{Part, weight}
 use Rattle.weighted_tree.specs.Nodes.{IsRoot}
 use Rattle.weighted_tree.specs.declared.subtree.Node.{Node}
-use Rattle.retro_base.specs.Digits.{digits}
-use Rattle.retro_base.specs.Visits.{VisitsWithin}
-use Rattle.retro_base.specs.VisitsLaws.{below-digits, digits-monotone}
+use Rattle.costs.specs.Digits.{digits}
+use Rattle.costs.specs.Visits.{VisitsWithin}
+use Rattle.costs.specs.VisitsLaws.{below-digits, digits-monotone}
 use Rattle.weighted_tree.specs.Levels.{IsWithinLevels, OneALevel, FourALevel, FourALevelOfBoth}
 use Rattle.weighted_tree.specs.SearchSteps.{VisitsOfSearch}
 use Rattle.weighted_tree.specs.declared.node.Side.{Side}

@@ -7,7 +7,7 @@ use Rattle.weighted_tree.specs.Balance.{Part, weight}
 use Rattle.weighted_tree.specs.Nodes.{IsRoot}
 use Rattle.weighted_tree.specs.Reads.{overwritten, edge, VisitsOfRead}
 use Rattle.weighted_tree.specs.declared.subtree.Node.{Node}
-use Rattle.retro_base.specs.Visits.{VisitsWithin}
+use Rattle.costs.specs.Visits.{VisitsWithin}
 use Rattle.weighted_tree.proofs.Levels.{few-by_levels, few_beside, few_in_leaf}
 use Rattle.weighted_tree.proofs.Ranges.{drop-before, drop-after}
 

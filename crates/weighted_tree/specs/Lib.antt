@@ -13,4 +13,4 @@ pub mod SearchSteps
 pub mod Sides
 pub mod Tails
 pub use Rattle.monoid_laws.specs.Measure
-pub use Rattle.retro_base.specs.Visits
+pub use Rattle.costs.specs.Visits

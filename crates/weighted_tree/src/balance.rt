@@ -2,13 +2,13 @@
 ghost use Rattle.std.specs.Prelude.{◌≡◌, ◌+◌, ◌^◌, ◌<◌, ◌≤◌, length, IfSome, IfNone};
 ghost use Rattle.weighted_tree.specs.Measures.{measure_in};
 ghost use Rattle.weighted_tree.specs.Balance.{weight, IsNearlyBalanced, IsTooHeavy};
-ghost use Rattle.weighted_tree.specs.Nodes.{node_items, node_count, items_of, nodes_of, HasBalance, IsSound, IsUnsettled};
+ghost use Rattle.weighted_tree.specs.Nodes.{node_items, node_count, items_of, nodes_of, HasBalance, HasChangedSide, IsSound, IsUnsettled};
 ghost use Rattle.weighted_tree.specs.Sides.{other, side_of};
 
 use crate::node::Side;
 use crate::subtree::{Link, Node, Subtree};
+use costs::Steps;
 use monoid_laws::{Measured, Monoid};
-use retro_base::Steps;
 use std::mem;
 use std::sync::ledger::Ledger;
 
@@ -33,14 +33,9 @@ impl<T: Measured> Link<T> {
             unreachable!()
         };
         let root = node.open_mut(steps);
-        let count = root.nodes();
-        if count != *nodes {
-            balance(root, steps);
-            *nodes = count;
-        }
-        let node = &mut **root;
-        *size = node.size();
-        *measure = node.measure();
+        restore(root, nodes, steps);
+        *size = root.size();
+        *measure = root.measure();
     }
 
     /// The same where the number of the nodes is known, and what the items measure may be told. Only where it is told and
@@ -83,8 +78,26 @@ impl<T: Measured> Link<T> {
     }
 }
 
+/// Restores the balance of a node where there are other nodes below it than were told, and tells their number.
+fn restore<T: Measured, L: Ledger>(root: &mut Box<Node<T>>, told: &mut u32, steps: &mut Steps<L>)
+    requires changed { HasChangedSide told.old root.old.value }
+    ensures balanced { HasBalance root.new.value }
+    ensures items { node_items root.new.value ≡ node_items root.old.value }
+    ensures nodes { node_count root.new.value ≡ node_count root.old.value }
+    ensures told { told.new ≡ node_count root.new.value }
+    ensures few { told.new ≤ length (node_items root.new.value) }
+    ensures none_lost { steps.old ≤ steps.new }
+    ensures visits { steps.new ≤ steps.old + 2 }
+{
+    let count = root.nodes();
+    if count != *told {
+        balance(root, steps);
+        *told = count;
+    }
+}
+
 /// Restores the balance of a node of which one side gained or lost an item.
-pub(crate) fn balance<T: Measured, L: Ledger>(root: &mut Box<Node<T>>, steps: &mut Steps<L>)
+fn balance<T: Measured, L: Ledger>(root: &mut Box<Node<T>>, steps: &mut Steps<L>)
     requires nearly { IsNearlyBalanced (weight root.old.value.left) (weight root.old.value.right) }
     requires fits { length (node_items root.old.value) < 2 ^ 32 }
     ensures balanced { HasBalance root.new.value }

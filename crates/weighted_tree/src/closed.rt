@@ -8,8 +8,8 @@ ghost use Rattle.weighted_tree.specs.Nodes.{full};
 use crate::leaf_edit::{insert_item, put_for, remove_item};
 use crate::room::make_room;
 use crate::subtree::Node;
+use costs::{NoMemory, Steps};
 use monoid_laws::Measured;
-use retro_base::{NoMemory, Steps};
 use std::sync::ledger::Ledger;
 
 /// A node as its link holds it. No other module sees it: each way to open it is a visit, and steps the

@@ -2,8 +2,8 @@
 ghost use Rattle.std.specs.Prelude.{◌≡◌, ◌+◌, ◌≤◌, length, IfOk, OnOk, OnErr};
 
 use crate::subtree::{Node, Subtree};
+use costs::{NoMemory, Steps};
 use monoid_laws::Measured;
-use retro_base::{NoMemory, Steps};
 use std::alloc::Global;
 use std::sync::ledger::Ledger;
 

@@ -1,16 +1,17 @@
 //! Edits of a subtree: an item comes in, goes, or is replaced by another one.
-ghost use Rattle.std.specs.Prelude.{◌≡◌, ◌+◌, ◌^◌, ◌<◌, ◌≤◌, ◌++◌, ◌∷◌, length, slice_get, slice_set, Some, OnOk, OnErr};
+ghost use Rattle.std.specs.Prelude.{◌≡◌, ◌+◌, ◌^◌, ◌<◌, ◌≤◌, ◌++◌, ◌∷◌, [], length, slice_get, slice_set, Some, OnOk, OnErr};
 ghost use Rattle.std.specs.List.{insert, remove};
 ghost use Rattle.weighted_tree.specs.Balance.{weight, IsUpToOneMore};
 ghost use Rattle.weighted_tree.specs.Levels.{FourALevel};
 ghost use Rattle.weighted_tree.specs.Nodes.{full};
 
 use crate::leaf::{FULL, divide};
-use crate::leaf_edit::{exchanged, insert_item};
+use crate::leaf_edit::exchanged;
 use crate::node::Side;
+use crate::room::room_for;
 use crate::subtree::{Link, Node, Subtree};
+use costs::{NoMemory, Steps};
 use monoid_laws::{Measured, Monoid};
-use retro_base::{NoMemory, Steps};
 use std::alloc::Global;
 use std::mem;
 use std::sync::ledger::Ledger;
@@ -78,21 +79,50 @@ impl<T: Measured> Subtree<T> {
         ensures visits { steps.new ≤ steps.old + 1 }
     {
         let count = self.len();
-        if count > 0 && count < FULL as u32 {
-            return if place == count {
-                self.push_in_leaf(item, steps)
-            } else {
-                self.put_in_leaf(place, item, steps)
-            };
+        if count == 0 {
+            self.start_leaf(item, alloc)
+        } else if count >= FULL as u32 {
+            self.divide_leaf(place as usize, item, alloc, steps)
+        } else if place == count {
+            self.push_in_leaf(item, steps)
+        } else {
+            self.put_in_leaf(place, item, steps)
         }
-        let mut measure = self.whole();
-        let mut items = self.take_or_new(alloc, steps);
-        let place = place as usize;
-        if items.len() < FULL {
-            let done = insert_item(&mut items, place, item, &mut measure);
-            *self = Subtree::of_measured(items, measure);
-            return done;
-        }
+    }
+
+    /// Makes a leaf of one item where there is none.
+    fn start_leaf(&mut self, item: T, alloc: Global) -> Result<(), NoMemory>
+        requires none { self.old.items ≡ [] }
+        ensures ok { OnOk result (self.new.items ≡ item ∷ []) }
+        ensures leaf { OnOk result (self.new.nodes ≡ 0) }
+        ensures err { OnErr result (self.new ≡ self.old) }
+    {
+        let mut items = Vec::with_capacity(alloc, room_for(1))?;
+        items.push(item)?;
+        *self = Subtree::of_items(items);
+        Ok(())
+    }
+
+    /// Puts an item in at a place of a full leaf, which is divided below a new node.
+    fn divide_leaf<L: Ledger>(
+        &mut self,
+        place: usize,
+        item: T,
+        alloc: Global,
+        steps: &mut Steps<L>,
+    ) -> Result<(), NoMemory>
+        requires leaf { self.old.nodes ≡ 0 }
+        requires filled { full ≤ length self.old.items }
+        requires within { place ≤ length self.old.items }
+        ensures ok { OnOk result (self.new.items ≡ insert self.old.items place item) }
+        ensures node { OnOk result (self.new.nodes ≡ 1) }
+        ensures err { OnErr result (self.new ≡ self.old) }
+        ensures visit { steps.new ≡ steps.old + 1 }
+    {
+        let measure = self.whole();
+        let Some(mut items) = self.take_leaf(steps) else {
+            unreachable!()
+        };
         match divide(&mut items, place, item, alloc) {
             Ok(mut node) => {
                 node.left = Subtree::of_items(items);
@@ -166,23 +196,6 @@ impl<T: Measured> Subtree<T> {
         let root = &mut **closed.open_mut(steps);
         root.right.append_below(node, steps);
         self.link.settle(steps);
-    }
-
-    /// Visits the leaf where there are items, and takes them out.
-    fn take_or_new<L: Ledger>(&mut self, alloc: Global, steps: &mut Steps<L>) -> Vec<T>
-        requires leaf { self.old.nodes ≡ 0 }
-        ensures items { result.items ≡ self.old.items }
-        ensures few { length result.items ≤ full }
-        ensures some { 0 < length self.old.items → steps.new ≡ steps.old + 1 }
-        ensures none { length self.old.items ≡ 0 → steps.new ≡ steps.old }
-    {
-        if self.len() == 0 {
-            return Vec::new(alloc);
-        }
-        let Some(items) = self.take_leaf(steps) else {
-            unreachable!()
-        };
-        items
     }
 
     /// Removes the item at a place, and gives it; those after it move one place back.

@@ -14,8 +14,8 @@ use crate::room::{give_back, room_for};
 use crate::search::{Search, passes};
 use crate::subtree::{Node, Subtree};
 use crate::walk::show;
+use costs::{NoMemory, Steps};
 use monoid_laws::{Measured, Monoid};
-use retro_base::{NoMemory, Steps};
 use std::alloc::Global;
 use std::sync::ledger::Ledger;
 

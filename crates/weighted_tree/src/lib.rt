@@ -50,7 +50,7 @@
 //! range measures; `FindsFirst`, `FindsLast` and `FindsPartition` of specs/Search.antt for the searches;
 //! specs/PartitionLaws.antt for what `partition_point` says of a list along which a test turns false once; `Writes` of
 //! specs/Reads.antt for what `read` writes, and specs/ReadLaws.antt for what it leaves of a list;
-//! `VisitsWithin` of `retro_base` for the cost.
+//! `VisitsWithin` of `costs` for the cost.
 //!
 //! - `tree`: the type and its calls. `tail`: its last items.
 //! - `uncounted`: the calls of `tree` for who asks for no bound, each with a counter of its own.

@@ -8,8 +8,8 @@ ghost use Rattle.weighted_tree.specs.Levels.{OneALevel, FourALevel};
 use crate::leaf::measure_between;
 use crate::node::Side;
 use crate::subtree::Subtree;
+use costs::Steps;
 use monoid_laws::{Measured, Monoid};
-use retro_base::Steps;
 use std::sync::ledger::Ledger;
 
 impl<T: Measured> Subtree<T> {

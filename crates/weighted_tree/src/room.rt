@@ -2,7 +2,7 @@
 ghost use Rattle.std.specs.Prelude.{◌≡◌, ◌≤◌, length};
 ghost use Rattle.weighted_tree.specs.Nodes.{full};
 
-use retro_base::NoMemory;
+use costs::NoMemory;
 
 /// By so many items a leaf grows.
 const STEP: usize = 8;

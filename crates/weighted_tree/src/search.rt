@@ -11,8 +11,8 @@ ghost use Rattle.weighted_tree.specs.Sides.{seen_from};
 use crate::leaf::{boundary_in, partition_in};
 use crate::node::Side;
 use crate::subtree::Subtree;
+use costs::Steps;
 use monoid_laws::{Measured, Monoid};
-use retro_base::Steps;
 use std::sync::ledger::Ledger;
 
 /// How far a search came.

@@ -2,7 +2,7 @@
 ghost use Rattle.std.specs.Prelude.{◌≡◌, ◌+◌, ◌-◌, ◌^◌, ◌<◌, ◌≤◌, [], min, length, take, drop, slice_get, slice_set, Some, IfSome, IfOk, OnOk, OnErr};
 ghost use Rattle.std.specs.List.{insert, remove, slice_range};
 ghost use Rattle.weighted_tree.specs.Measures.{measure_in, from_place, up_to_place, passing};
-ghost use Rattle.retro_base.specs.Visits.{VisitsWithin};
+ghost use Rattle.costs.specs.Visits.{VisitsWithin};
 ghost use Rattle.weighted_tree.specs.Reads.{Writes};
 ghost use Rattle.weighted_tree.specs.Search.{FindsFirst, FindsLast, FindsPartition};
 ghost use Rattle.weighted_tree.specs.SearchSteps.{IsSought};
@@ -13,8 +13,8 @@ use crate::node::Side;
 use crate::search::{Search, boundary_in_both, passes};
 use crate::subtree::Subtree;
 use crate::tail::Tail;
+use costs::{NoMemory, Steps};
 use monoid_laws::{Measured, Monoid};
-use retro_base::{NoMemory, Steps};
 use std::alloc::Global;
 use std::marker::Model;
 use std::sync::ledger::Ledger;

@@ -2,14 +2,14 @@
 //! calls of `Tree` with the same names; `last_place` and `copy` have no such twin.
 ghost use Rattle.std.specs.Prelude.{◌≡◌, ◌-◌, ◌^◌, ◌<◌, ◌≤◌, min, length, take, drop, slice_get, slice_set, Some, IfSome, OnOk, OnErr};
 ghost use Rattle.std.specs.List.{insert, remove, slice_range};
-ghost use Rattle.retro_base.specs.Visits.{OpensCounter};
+ghost use Rattle.costs.specs.Visits.{OpensCounter};
 ghost use Rattle.weighted_tree.specs.Measures.{measure_in, from_place};
 ghost use Rattle.weighted_tree.specs.Reads.{Writes};
 ghost use Rattle.weighted_tree.specs.Search.{FindsFirst, FindsPartition};
 
 use crate::tree::Tree;
+use costs::{NoMemory, Steps};
 use monoid_laws::Measured;
-use retro_base::{NoMemory, Steps};
 use std::marker::Brand;
 use std::sync::ledger::{Blank, Ledger};
 

@@ -6,8 +6,8 @@ ghost use Rattle.weighted_tree.specs.Reads.{Writes, VisitsOfRead};
 
 use crate::leaf::read_in;
 use crate::subtree::Subtree;
+use costs::Steps;
 use monoid_laws::Measured;
-use retro_base::Steps;
 use std::sync::ledger::Ledger;
 
 impl<T: Measured> Subtree<T> {

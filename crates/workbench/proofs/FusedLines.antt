@@ -9,10 +9,10 @@ use Rattle.script_grammar.specs.Numbers.{row_number_of}
 use Rattle.script_grammar.specs.Words.{words}
 use Rattle.script_grammar.specs.declared.command.LineError.TheVariants.{Syntax}
 use Rattle.timeline_file.specs.Block.{Block, taken}
-use Rattle.timelines.specs.Bench.{NamedTimeline, OpenBlock, Bench, empty_bench}
+use Rattle.reactions.specs.Bench.{NamedTimeline, OpenBlock, Bench, empty_bench}
 use Rattle.workbench.specs.FusedLines.{AreStarts, DifferInPieces, FusedAnswersAlike}
 use Rattle.workbench.specs.OwnLines.{answers_from}
-use Rattle.timelines.specs.Reaction.{Reaction, happens, outside, reaction_of, reacts}
+use Rattle.reactions.specs.Reaction.{Reaction, happens, outside, reaction_of, reacts}
 
 module _ (name : List ℕ) where
   abbrev plain_words : List (List ℕ)

@@ -6,16 +6,16 @@ use Rattle.retro_base.specs.Edits.{Edit, Step, add, edited_by}
 use Rattle.retro_base.specs.Replay.{failure}
 use Rattle.retro_base.specs.Kind.{kind_of, same_kind}
 use Rattle.script_grammar.specs.declared.command.Spot.{Spot}
-use Rattle.timeline_undo.specs.History.{newest_step}
-use Rattle.timeline_undo.specs.declared.shift.Target.{Target}
-use Rattle.timeline_undo.specs.declared.shift.Target.TheVariants.{At, Into}
-use Rattle.timelines.specs.declared.outcome.Outcome.{Outcome}
-use Rattle.timelines.specs.declared.outcome.Outcome.TheVariants.{Accepted, Inserted}
-use Rattle.timelines.specs.declared.outcome.Refusal.TheVariants as refusals
-use Rattle.timelines.specs.declared.position.Position.{Position}
-use Rattle.timelines.specs.Bench.{NamedTimeline}
-use Rattle.timelines.specs.TimelineEffects.{TimelineEffect, refuses, accepted_or_refused, after_step, makes, edits, tells, new_row, row_named, position_of, inserts_at, cut_of}
-use Rattle.timelines.specs.TimelineEffects.{deletes_by, inserts, deletes, shift_of_row, shifts_by, shifts, moves, changes, undoes_step, undoes, redoes_step, redoes}
+use Rattle.retro_base.specs.History.{newest_step}
+use Rattle.retro_base.specs.declared.target.Target.{Target}
+use Rattle.retro_base.specs.declared.target.Target.TheVariants.{At, Into}
+use Rattle.reactions.specs.declared.outcome.Outcome.{Outcome}
+use Rattle.reactions.specs.declared.outcome.Outcome.TheVariants.{Accepted, Inserted}
+use Rattle.reactions.specs.declared.outcome.Refusal.TheVariants as refusals
+use Rattle.reactions.specs.declared.position.Position.{Position}
+use Rattle.reactions.specs.Bench.{NamedTimeline}
+use Rattle.reactions.specs.TimelineEffects.{TimelineEffect, refuses, accepted_or_refused, after_step, makes, edits, tells, new_row, row_named, position_of, inserts_at, cut_of}
+use Rattle.reactions.specs.TimelineEffects.{deletes_by, inserts, deletes, shift_of_row, shifts_by, shifts, moves, changes, undoes_step, undoes, redoes_step, redoes}
 
 -- the effect keeps the name
 abbrev pub KeepsName : NamedTimeline → TimelineEffect → Type 0

@@ -4,11 +4,11 @@ use Rattle.std.proofs.Common.{◌≡◌, ◌≢◌, ℕ, Bool, true, false, cond
 use Rattle.std.specs.Str.{bytes_eq}
 use Rattle.retro_base.specs.LineLength.{is_long}
 use Rattle.script_grammar.specs.BlockLines.{is_end}
-use Rattle.timelines.specs.declared.outcome.Outcome.TheVariants.{Silent, Refused}
-use Rattle.timelines.specs.declared.outcome.Refusal.TheVariants as refusals
-use Rattle.timelines.specs.Bench.{NamedTimeline, OpenBlock, Bench, empty_bench}
+use Rattle.reactions.specs.declared.outcome.Outcome.TheVariants.{Silent, Refused}
+use Rattle.reactions.specs.declared.outcome.Refusal.TheVariants as refusals
+use Rattle.reactions.specs.Bench.{NamedTimeline, OpenBlock, Bench, empty_bench}
 use Rattle.workbench.specs.OwnLines.{name_of_block, names, event_of, block_after, own_from, close_answers, own_answers_from, answers_from, MeetsNoLimit, OwnLinesAlone}
-use Rattle.timelines.specs.Reaction.{BenchEffect, leaves, ends, inside, happens, spelled, with_block, with_line, reaction_of, reacts, opened, obeys}
+use Rattle.reactions.specs.Reaction.{BenchEffect, leaves, ends, inside, happens, spelled, with_block, with_line, reaction_of, reacts, opened, obeys}
 use Rattle.workbench.proofs.Shares.{share, share_of_block, share_of_bench, share_of_all, own_obeys, own_opened, other_obeys, other_opened, own_closes, other_closes}
 
 module _ (name : List ℕ) where

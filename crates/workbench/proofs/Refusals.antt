@@ -17,20 +17,20 @@ use Rattle.timeline_file.specs.Block.{finished}
 use Rattle.std.specs.Prelude.{not, ◌&&◌, if◌then◌else◌}
 use Rattle.script_grammar.specs.declared.command.Spot.{Spot}
 use Rattle.retro_base.specs.Limits.{most_timelines}
-use Rattle.timelines.specs.declared.outcome.Outcome.{Outcome}
-use Rattle.timelines.specs.declared.outcome.Outcome.TheVariants.{Silent, Accepted, Inserted, Refused}
-use Rattle.timelines.specs.declared.outcome.Refusal.TheVariants as refusals
-use Rattle.timelines.specs.declared.position.Position.{Position}
-use Rattle.timelines.specs.Bench.{NamedTimeline, OpenBlock, Bench, fresh, is_named, has_timeline}
-use Rattle.timelines.specs.Outcome.{is_refusal}
-use Rattle.timelines.specs.Reaction.{Effect, BenchEffect, Reaction, reaction_of, leaves, if_startable, with_timeline, on_named, obeys, opened, outside, happens, loads, closes, ends, with_line, with_block, without_block}
-use Rattle.timelines.specs.TimelineEffects.{TimelineEffect, refuses, accepted_or_refused, after_step, makes, edits, tells, new_row, row_named, position_of}
-use Rattle.timelines.specs.TimelineEffects.{inserts_there, inserts_at, cut_of, deletes_by, inserts, deletes, shift_of_row, shifts_there, shifts_by, shifts}
-use Rattle.timelines.specs.TimelineEffects.{moves, changes, unchanged, answers, answers_fate, undoes_step, undoes, redoes_step, redoes, saves}
-use Rattle.timeline_undo.specs.History.{newest_step}
-use Rattle.timeline_undo.specs.declared.shift.Target.{Target}
-use Rattle.timeline_undo.specs.declared.shift.Target.TheVariants.{At, Into}
-use Rattle.timelines.specs.ReactionLaws.{reported_is_no_refusal}
+use Rattle.reactions.specs.declared.outcome.Outcome.{Outcome}
+use Rattle.reactions.specs.declared.outcome.Outcome.TheVariants.{Silent, Accepted, Inserted, Refused}
+use Rattle.reactions.specs.declared.outcome.Refusal.TheVariants as refusals
+use Rattle.reactions.specs.declared.position.Position.{Position}
+use Rattle.reactions.specs.Bench.{NamedTimeline, OpenBlock, Bench, fresh, is_named, has_timeline}
+use Rattle.reactions.specs.Outcome.{is_refusal}
+use Rattle.reactions.specs.Reaction.{Effect, BenchEffect, Reaction, reaction_of, leaves, if_startable, with_timeline, on_named, obeys, opened, outside, happens, loads, closes, ends, with_line, with_block, without_block}
+use Rattle.reactions.specs.TimelineEffects.{TimelineEffect, refuses, accepted_or_refused, after_step, makes, edits, tells, new_row, row_named, position_of}
+use Rattle.reactions.specs.TimelineEffects.{inserts_there, inserts_at, cut_of, deletes_by, inserts, deletes, shift_of_row, shifts_there, shifts_by, shifts}
+use Rattle.reactions.specs.TimelineEffects.{moves, changes, unchanged, answers, answers_fate, undoes_step, undoes, redoes_step, redoes, saves}
+use Rattle.retro_base.specs.History.{newest_step}
+use Rattle.retro_base.specs.declared.target.Target.{Target}
+use Rattle.retro_base.specs.declared.target.Target.TheVariants.{At, Into}
+use Rattle.reactions.specs.ReactionLaws.{reported_is_no_refusal}
 use Rattle.retro_base.specs.Facts.{not_both}
 
 -- the effect leaves the timeline as it was, where it is a refusal

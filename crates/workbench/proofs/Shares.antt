@@ -17,14 +17,14 @@ use Rattle.script_grammar.specs.declared.command.LineError.{LineError}
 use Rattle.script_grammar.specs.declared.command.LineError.TheVariants as errors
 use Rattle.timeline_file.specs.declared.block.BlockError.{BlockError}
 use Rattle.timeline_file.specs.Block.{finished}
-use Rattle.timelines.specs.declared.outcome.Outcome.{Outcome}
-use Rattle.timelines.specs.declared.outcome.Outcome.TheVariants.{Accepted, Refused}
-use Rattle.timelines.specs.declared.outcome.Refusal.TheVariants as refusals
-use Rattle.timelines.specs.Bench.{NamedTimeline, OpenBlock, Bench, fresh, is_named, has_timeline}
+use Rattle.reactions.specs.declared.outcome.Outcome.{Outcome}
+use Rattle.reactions.specs.declared.outcome.Outcome.TheVariants.{Accepted, Refused}
+use Rattle.reactions.specs.declared.outcome.Refusal.TheVariants as refusals
+use Rattle.reactions.specs.Bench.{NamedTimeline, OpenBlock, Bench, fresh, is_named, has_timeline}
 use Rattle.workbench.specs.OwnLines.{name_in, names}
-use Rattle.timelines.specs.Reaction.{Effect, BenchEffect, leaves, if_startable, with_timeline, on_named, obeys, of_block, loads, closes, opened}
-use Rattle.timelines.specs.Reported.{loaded}
-use Rattle.timelines.specs.TimelineEffects.{TimelineEffect, unchanged, inserts, deletes, moves, changes, answers, answers_fate, undoes, redoes, saves}
+use Rattle.reactions.specs.Reaction.{Effect, BenchEffect, leaves, if_startable, with_timeline, on_named, obeys, of_block, loads, closes, opened}
+use Rattle.reactions.specs.Reported.{loaded}
+use Rattle.reactions.specs.TimelineEffects.{TimelineEffect, unchanged, inserts, deletes, moves, changes, answers, answers_fate, undoes, redoes, saves}
 use Rattle.workbench.proofs.Names.{KeepsName, inserts_keeps_name, deletes_keeps_name, moves_keeps_name, changes_keeps_name, undoes_keeps_name, redoes_keeps_name}
 use Rattle.retro_base.specs.Facts.{same_bytes}
 

@@ -8,10 +8,10 @@ use Rattle.script_grammar.specs.declared.command.Command.TheVariants.{Nothing, N
 use Rattle.script_grammar.specs.declared.command.LineError.{LineError}
 use Rattle.retro_base.specs.LineLength.{is_long}
 use Rattle.script_grammar.specs.BlockLines.{is_end}
-use Rattle.timelines.specs.declared.outcome.Outcome.TheVariants.{Refused}
-use Rattle.timelines.specs.declared.outcome.Refusal.TheVariants.{Timelines}
-use Rattle.timelines.specs.Bench.{OpenBlock, Bench, empty_bench}
-use Rattle.timelines.specs.Reaction.{opened, spelled, happens, ends, reacts, closing}
+use Rattle.reactions.specs.declared.outcome.Outcome.TheVariants.{Refused}
+use Rattle.reactions.specs.declared.outcome.Refusal.TheVariants.{Timelines}
+use Rattle.reactions.specs.Bench.{OpenBlock, Bench, empty_bench}
+use Rattle.reactions.specs.Reaction.{opened, spelled, happens, ends, reacts, closing}
 
 -- the timeline that a command names
 abbrev pub name_in : Result Command LineError → Option (List ℕ)

@@ -3,16 +3,18 @@
 ghost use Rattle.std.specs.Prelude.{◌≡◌, ◌≤◌, ◌⊎◌, [], length, is_err, is_some, true, false, None, Some, IsTrue, IfOk, OnOk, OnErr, MatchOption, option_map};
 ghost use Rattle.retro_base.specs.Limits.{longest_line};
 ghost use Rattle.script_grammar.specs.Command.{IsProper};
-ghost use Rattle.timelines.specs.Bench.{NamedTimeline, empty_bench, named, present_size, timeline_of};
-ghost use Rattle.timelines.specs.Reaction.{closing, ends, opened, reaction_of, reacts_to, with_line, without_block};
+ghost use Rattle.reactions.specs.Bench.{NamedTimeline, empty_bench, present_size, timeline_of};
+ghost use Rattle.timelines.specs.Kept.{named};
+ghost use Rattle.reactions.specs.Reaction.{closing, ends, opened, reaction_of, reacts_to, with_line, without_block};
 
 use engine::Engine;
+use reactions::AnyBench;
 use retro_base::{Name, NoMemory, Text};
 use script_grammar::{Command, LineError, is_end, read_line};
 use std::alloc::Global;
 use std::marker::Model;
 use timeline_undo::Session;
-use timelines::{AnyBench, OpenBlock, Timelines};
+use timelines::{OpenBlock, Timelines};
 
 /// What a line is answered.
 #[derive(Drop)]
@@ -34,7 +36,7 @@ pub struct Bench {
 }
 
 impl Model for Bench {
-    ghost use Rattle.timelines.specs.Bench.{BenchState};
+    ghost use Rattle.reactions.specs.Bench.{BenchState};
 
     ghost Value = { BenchState };
 

@@ -3,8 +3,8 @@
 //! A line is one event: it is read, and done whole or refused whole by the timelines that it is about (`timelines`), or it belongs
 //! to the block that is being read.
 //!
-//! - `Bench::line` does what a line asks for and gives the lines that answer it, by `specs/Reaction.antt` of `timelines`; `Bench::end` does
-//!   so at the end of the input. `line_into` and `end_into`, calls of `AnyBench` of `timelines`, write these lines into a text of the
+//! - `Bench::line` does what a line asks for and gives the lines that answer it, by `specs/Reaction.antt` of `reactions`; `Bench::end` does
+//!   so at the end of the input. `line_into` and `end_into`, calls of `AnyBench` of `reactions`, write these lines into a text of the
 //!   caller, who may use it again for the next one.
 //! - `bench`: the type and its calls. `laws`: a timeline's own lines are answered as they would be alone, and `pqf` for `pq` changes
 //!   no answer.
@@ -14,4 +14,4 @@ mod bench;
 pub mod laws;
 
 pub use bench::{Bench, Reply};
-pub use timelines::MAX_TIMELINES;
+pub use reactions::MAX_TIMELINES;

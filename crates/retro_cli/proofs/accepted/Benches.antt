@@ -16,13 +16,13 @@ use Rattle.script_grammar.specs.BlockLines.{is_end}
 use Rattle.timeline_file.specs.declared.block.BlockError.{BlockError}
 use Rattle.timeline_file.specs.Block.{finished}
 use Rattle.timeline_undo.specs.Back.{ShiftsCanBeMade}
-use Rattle.timelines.specs.declared.outcome.Outcome.TheVariants.{Silent, Accepted, Refused}
-use Rattle.timelines.specs.declared.outcome.Refusal.TheVariants as refusals
-use Rattle.timelines.specs.Bench.{Bench, NamedTimeline, OpenBlock, has_timeline}
-use Rattle.timelines.specs.Outcome.{block_refusal, evidence_lines, reply_text}
-use Rattle.timelines.specs.Reaction.{BenchEffect, Effect, closes, ends, happens, inside, leaves, loads, obeys, of_block, opened, spelled, with_block, with_line}
-use Rattle.timelines.specs.TimelineEffects.{answers, answers_fate, changes, deletes, inserts, moves, redoes, saves, unchanged, undoes}
-use Rattle.timelines.specs.Reported.{appends_from, loaded, loaded_evidence}
+use Rattle.reactions.specs.declared.outcome.Outcome.TheVariants.{Silent, Accepted, Refused}
+use Rattle.reactions.specs.declared.outcome.Refusal.TheVariants as refusals
+use Rattle.reactions.specs.Bench.{Bench, NamedTimeline, OpenBlock, has_timeline}
+use Rattle.reactions.specs.Outcome.{block_refusal, evidence_lines, reply_text}
+use Rattle.reactions.specs.Reaction.{BenchEffect, Effect, closes, ends, happens, inside, leaves, loads, obeys, of_block, opened, spelled, with_block, with_line}
+use Rattle.reactions.specs.TimelineEffects.{answers, answers_fate, changes, deletes, inserts, moves, redoes, saves, unchanged, undoes}
+use Rattle.reactions.specs.Reported.{appends_from, loaded, loaded_evidence}
 use Rattle.retro_cli.proofs.accepted.Blocks.{IsGoodBlock, begun_is_good, good_loaded, sound_closed, taken_good}
 use Rattle.retro_cli.proofs.accepted.Effects.{delete_stays, insert_stays, move_stays, change_stays, redo_stays, reported_rows, stays_as_it_was, undo_stays}
 use Rattle.retro_cli.proofs.accepted.Passing.{accepted_passes, answer_passes, fate_passes, refusal_passes, saved_passes, silent_passes}

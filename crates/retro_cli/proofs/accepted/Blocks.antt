@@ -20,8 +20,8 @@ use Rattle.timeline_file.specs.declared.block.RowCause.{RowCause}
 use Rattle.timeline_file.specs.declared.block.RowCause.TheVariants as causes
 use Rattle.timeline_file.specs.Block.{Block, after_row_line, are_below, begun, cause_of_row, decided, fault_of, finished, grown, has_number, last_time, row_line, taken}
 use Rattle.timeline_file.specs.Block.{whole}
-use Rattle.timelines.specs.Bench.{OpenBlock}
-use Rattle.timelines.specs.Reaction.{of_block}
+use Rattle.reactions.specs.Bench.{OpenBlock}
+use Rattle.reactions.specs.Reaction.{of_block}
 use Rattle.retro_cli.proofs.accepted.Effects.{IsGood}
 use Rattle.retro_cli.proofs.accepted.Made.{IsRanged, IsSound}
 use Rattle.retro_cli.proofs.accepted.Positions.{same_kind_is}

@@ -17,24 +17,24 @@ use Rattle.evidence_check.specs.Judgement.{Judge}
 use Rattle.evidence_check.specs.Laws.{EditsAreSpelled, EditsAreReported}
 use Rattle.script_grammar.specs.SpellingLaws.{HasValues}
 use Rattle.script_grammar.specs.declared.command.Spot.{Spot}
-use Rattle.timeline_undo.specs.History.{newest, newest_step, older_steps}
+use Rattle.retro_base.specs.History.{newest, newest_step, older_steps}
 use Rattle.timeline_undo.specs.Back.{ShiftsCanBeMade}
-use Rattle.timeline_undo.specs.Shift.{IsTargetOf, shift_at, shift_of}
-use Rattle.timeline_undo.specs.declared.shift.Target.{Target}
-use Rattle.timeline_undo.specs.declared.shift.Target.TheVariants.{At, Into}
+use Rattle.retro_base.specs.Shift.{IsTargetOf, shift_at, shift_of}
+use Rattle.retro_base.specs.declared.target.Target.{Target}
+use Rattle.retro_base.specs.declared.target.Target.TheVariants.{At, Into}
 use Rattle.retro_cli.proofs.accepted.Made.{HasTarget, comes, goes, next_fresh, shift_made, IsSound, Makes, MakesStep, TakesBack, leads_to, sound_after, sound_later, step_back}
 use Rattle.retro_cli.proofs.accepted.Made.{step_later}
-use Rattle.timelines.specs.declared.outcome.Outcome.{Outcome}
-use Rattle.timelines.specs.declared.outcome.Outcome.TheVariants.{Accepted, Inserted, Refused}
-use Rattle.timelines.specs.declared.outcome.Refusal.{Refusal}
-use Rattle.timelines.specs.declared.outcome.Refusal.TheVariants as refusals
-use Rattle.timelines.specs.declared.position.Position.{Position}
-use Rattle.timelines.specs.Bench.{NamedTimeline}
-use Rattle.timelines.specs.Outcome.{reply_text}
-use Rattle.timelines.specs.TimelineEffects.{TimelineEffect, accepted_or_refused, after_step, makes, shifts_there, shifts_by, shifts, moves, changes, cut_of}
-use Rattle.timelines.specs.TimelineEffects.{deletes, deletes_by, edits, inserts, inserts_at, inserts_there, new_row, position_of, redoes, redoes_step, refusal_at, refuses, row_named}
-use Rattle.timelines.specs.TimelineEffects.{unchanged, undoes, undoes_step, where_one_fits}
-use Rattle.timelines.specs.Reported.{evidence_of_step, reported}
+use Rattle.reactions.specs.declared.outcome.Outcome.{Outcome}
+use Rattle.reactions.specs.declared.outcome.Outcome.TheVariants.{Accepted, Inserted, Refused}
+use Rattle.reactions.specs.declared.outcome.Refusal.{Refusal}
+use Rattle.reactions.specs.declared.outcome.Refusal.TheVariants as refusals
+use Rattle.reactions.specs.declared.position.Position.{Position}
+use Rattle.reactions.specs.Bench.{NamedTimeline}
+use Rattle.reactions.specs.Outcome.{reply_text}
+use Rattle.reactions.specs.TimelineEffects.{TimelineEffect, accepted_or_refused, after_step, makes, shifts_there, shifts_by, shifts, moves, changes, cut_of}
+use Rattle.reactions.specs.TimelineEffects.{deletes, deletes_by, edits, inserts, inserts_at, inserts_there, new_row, position_of, redoes, redoes_step, refusal_at, refuses, row_named}
+use Rattle.reactions.specs.TimelineEffects.{unchanged, undoes, undoes_step, where_one_fits}
+use Rattle.reactions.specs.Reported.{evidence_of_step, reported}
 use Rattle.retro_cli.proofs.accepted.Leads.{Leads, leads_last, leads_later, leads_more, leads_so}
 use Rattle.retro_cli.proofs.accepted.Printable.{NamesTimeline}
 use Rattle.retro_cli.proofs.accepted.Telling.{Agrees, HasReported, is_listed, tells_same, tells_step}

@@ -21,16 +21,16 @@ use Rattle.retro_base.specs.lemmas.Replayable.{all_before}
 use Rattle.evidence.specs.Evidence.{IsPqOp, IsRowNumber, IsValue}
 use Rattle.evidence_check.specs.Laws.{HasRoom, IsInRange, edit_row}
 use Rattle.script_grammar.specs.SpellingLaws as grammar
-use Rattle.timelines.specs.Reported.{appends_from}
+use Rattle.reactions.specs.Reported.{appends_from}
 use Rattle.retro_cli.proofs.accepted.Leads.{Leads, leads_back, leads_so}
 use Rattle.retro_base.specs.Replay.{IsValid}
 use Rattle.retro_base.specs.ReplayableLaws.{replayable_with, replayable_without}
 use Rattle.retro_base.specs.lemmas.GivingEdits.{adding_row_replays, taking_row_can_go}
 use Rattle.script_grammar.specs.SpellingLaws.{HasValues}
 use Rattle.timeline_undo.specs.Back.{CanBeMade, ShiftsCanBeMade}
-use Rattle.timeline_undo.specs.Shift.{IsTargetOf, index_after, place_for, replacing, put_then_cut, cut_then_put, shift_of}
-use Rattle.timeline_undo.specs.declared.shift.Target.{Target}
-use Rattle.timeline_undo.specs.declared.shift.Target.TheVariants.{At, Into}
+use Rattle.retro_base.specs.Shift.{IsTargetOf, index_after, place_for, replacing, put_then_cut, cut_then_put, shift_of}
+use Rattle.retro_base.specs.declared.target.Target.{Target}
+use Rattle.retro_base.specs.declared.target.Target.TheVariants.{At, Into}
 use Rattle.std.proofs.lemmas.Option.{slice_get_within}
 
 -- a row with values of 64 bits and a number that a row can have, below the next one

@@ -16,15 +16,15 @@ use Rattle.script_grammar.specs.declared.command.Moment.TheVariants.{Now, Then}
 use Rattle.script_grammar.specs.declared.command.Query.{Query}
 use Rattle.script_grammar.specs.declared.command.Query.TheVariants.{One, All}
 use Rattle.timeline_file.specs.Saved.{end_text, header_text, row_line_text, row_lines, row_text, saved, with_feed}
-use Rattle.timelines.specs.declared.outcome.Outcome.{Outcome}
-use Rattle.timelines.specs.declared.outcome.Outcome.TheVariants.{Silent, Accepted, Inserted, Answered, Listed, Saved, Taken, Stays, Refused}
-use Rattle.timelines.specs.declared.outcome.Refusal.{Refusal}
-use Rattle.timelines.specs.declared.outcome.Refusal.TheVariants as refusals
-use Rattle.timelines.specs.declared.position.Position.{Position}
-use Rattle.timelines.specs.Bench.{NamedTimeline}
-use Rattle.timelines.specs.Outcome.{refusal_text, reply_text}
-use Rattle.timelines.specs.ReactionLaws.{answers_fate-each}
-use Rattle.timelines.specs.TimelineEffects.{answers, answers_at, answers_fate, answers_then, position_of, row_named}
+use Rattle.reactions.specs.declared.outcome.Outcome.{Outcome}
+use Rattle.reactions.specs.declared.outcome.Outcome.TheVariants.{Silent, Accepted, Inserted, Answered, Listed, Saved, Taken, Stays, Refused}
+use Rattle.reactions.specs.declared.outcome.Refusal.{Refusal}
+use Rattle.reactions.specs.declared.outcome.Refusal.TheVariants as refusals
+use Rattle.reactions.specs.declared.position.Position.{Position}
+use Rattle.reactions.specs.Bench.{NamedTimeline}
+use Rattle.reactions.specs.Outcome.{refusal_text, reply_text}
+use Rattle.reactions.specs.ReactionLaws.{answers_fate-each}
+use Rattle.reactions.specs.TimelineEffects.{answers, answers_at, answers_fate, answers_then, position_of, row_named}
 use Rattle.retro_cli.proofs.accepted.Printable.{NamesTimeline, answer_printable, decimal_printable, header_printable, listing_printable, refusal_line, row_printable, taken_printable}
 use Rattle.retro_cli.proofs.accepted.ReadLines.{Reads, reads-append, reads_nothing, reads_other}
 

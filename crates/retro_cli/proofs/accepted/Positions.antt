@@ -10,8 +10,8 @@ use Rattle.retro_base.specs.Kind.{same_kind}
 use Rattle.retro_base.specs.Places.{place_of_row}
 use Rattle.script_grammar.specs.declared.command.Spot.{Spot}
 use Rattle.script_grammar.specs.declared.command.Spot.TheVariants as spots
-use Rattle.timelines.specs.declared.position.Position.{Position}
-use Rattle.timelines.specs.TimelineEffects.{next_position, position_before, position_of}
+use Rattle.reactions.specs.declared.position.Position.{Position}
+use Rattle.reactions.specs.TimelineEffects.{next_position, position_before, position_of}
 
 -- two kinds are one
 pub same_kind_is : (kind other : Kind) → same_kind kind other ≡ true → kind ≡ other

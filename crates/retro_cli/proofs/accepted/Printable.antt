@@ -23,9 +23,9 @@ use Rattle.script_grammar.specs.AnswerText.{answer_text, item_text, listing_text
 use Rattle.timeline_file.specs.declared.block.RowCause.{RowCause}
 use Rattle.timeline_file.specs.Saved.{header_text, kind_text}
 use Rattle.timeline_file.specs.Saved as files
-use Rattle.timelines.specs.declared.outcome.Refusal.{Refusal}
-use Rattle.timelines.specs.declared.outcome.Refusal.TheVariants as refusals
-use Rattle.timelines.specs.Outcome.{cause_text, refusal_text}
+use Rattle.reactions.specs.declared.outcome.Refusal.{Refusal}
+use Rattle.reactions.specs.declared.outcome.Refusal.TheVariants as refusals
+use Rattle.reactions.specs.Outcome.{cause_text, refusal_text}
 
 -- no byte is below the space
 abbrev pub is_printable : List ℕ → Bool

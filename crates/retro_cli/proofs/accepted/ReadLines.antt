@@ -16,7 +16,7 @@ use Rattle.evidence.specs.Reading.{evidence_of, named, spelled_by, words}
 use Rattle.evidence.specs.Spelling.{spelling}
 use Rattle.evidence_check.specs.Judgement.{Judge, accepted, decided, first_cause, is_evidence_line, judged, judgement, judgement_from, nothing_reported, reported_after}
 use Rattle.evidence_check.specs.JudgementLaws.{judged-other, judged-spelling}
-use Rattle.timelines.specs.Outcome.{as_line}
+use Rattle.reactions.specs.Outcome.{as_line}
 use Rattle.retro_run.specs.Events.{events_among, events_spelled}
 use Rattle.retro_cli.proofs.accepted.Leads.{Leads, leads-append, leads_one}
 use Rattle.retro_cli.proofs.accepted.Printable.{is_printable}

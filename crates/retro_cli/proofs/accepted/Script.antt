@@ -9,9 +9,9 @@ use Rattle.evidence.specs.Laws.{LinesAreShort, PrintedReadsBack}
 use Rattle.evidence_check.specs.Judgement.{Judge, nothing_reported}
 use Rattle.evidence_check.specs.Laws.{EditsAreSpelled, EditsAreReported}
 use Rattle.timeline_undo.specs.Back.{ShiftsCanBeMade}
-use Rattle.timelines.specs.Answers.{bench_after, reactions}
-use Rattle.timelines.specs.Bench.{Bench, empty_bench}
-use Rattle.timelines.specs.Reaction.{Reaction, closing, reacts}
+use Rattle.reactions.specs.Answers.{bench_after, reactions}
+use Rattle.reactions.specs.Bench.{Bench, empty_bench}
+use Rattle.reactions.specs.Reaction.{Reaction, closing, reacts}
 use Rattle.retro_run.specs.Events.{events_among}
 use Rattle.retro_run.specs.Output.{output}
 use Rattle.retro_cli.specs.Accepted.{WhatIsWrittenIsAccepted}

@@ -18,8 +18,8 @@ use Rattle.evidence_check.specs.declared.error.CheckError.TheVariants as causes
 use Rattle.evidence_check.specs.Judgement.{Judge, Reported, first_cause, is_named, is_one_too_many, rows_of, reported_after, with_rows}
 use Rattle.evidence_check.specs.Laws.{EditsAreSpelled, EditsAreReported, evidence_for, timeless}
 use Rattle.evidence_check.specs.Truth.{cause_of, rows_after}
-use Rattle.timelines.specs.Outcome.{evidence_line, evidence_lines}
-use Rattle.timelines.specs.Reported.{evidence_of, evidence_of_step}
+use Rattle.reactions.specs.Outcome.{evidence_line, evidence_lines}
+use Rattle.reactions.specs.Reported.{evidence_of, evidence_of_step}
 use Rattle.retro_cli.proofs.accepted.Made.{Makes, MakesStep, can_be_reported}
 use Rattle.retro_cli.proofs.accepted.Printable.{spelling_printable}
 use Rattle.retro_cli.proofs.accepted.ReadLines.{Reads, Takes, reads-append, reads_line, reads_nothing, with_event}

@@ -11,13 +11,13 @@ use Rattle.retro_base.specs.Limits.{most_timelines}
 use Rattle.retro_base.specs.Name.{is_name}
 use Rattle.retro_base.specs.lemmas.Replayable.{empty_replayable}
 use Rattle.evidence_check.specs.Judgement.{Judge, Reported, rows_of}
-use Rattle.timelines.specs.declared.outcome.Outcome.{Outcome}
-use Rattle.timelines.specs.declared.outcome.Outcome.TheVariants.{Accepted, Refused}
-use Rattle.timelines.specs.declared.outcome.Refusal.TheVariants as refusals
-use Rattle.timelines.specs.Bench.{NamedTimeline, fresh, has_timeline, is_named}
-use Rattle.timelines.specs.Outcome.{reply_text}
-use Rattle.timelines.specs.Reaction.{Effect, if_startable, leaves, on_named, with_first, with_timeline}
-use Rattle.timelines.specs.TimelineEffects.{TimelineEffect}
+use Rattle.reactions.specs.declared.outcome.Outcome.{Outcome}
+use Rattle.reactions.specs.declared.outcome.Outcome.TheVariants.{Accepted, Refused}
+use Rattle.reactions.specs.declared.outcome.Refusal.TheVariants as refusals
+use Rattle.reactions.specs.Bench.{NamedTimeline, fresh, has_timeline, is_named}
+use Rattle.reactions.specs.Outcome.{reply_text}
+use Rattle.reactions.specs.Reaction.{Effect, if_startable, leaves, on_named, with_first, with_timeline}
+use Rattle.reactions.specs.TimelineEffects.{TimelineEffect}
 use Rattle.retro_cli.proofs.accepted.Blocks.{all_then}
 use Rattle.retro_cli.proofs.accepted.Effects.{IsGood, StaysGood, reported_rows}
 use Rattle.retro_cli.proofs.accepted.Passing.{IsPassedOver, accepted_passes, refusal_passes}

@@ -1,5 +1,5 @@
 use Rattle.std.proofs.Common.{length}
-use Rattle.retro_base.specs.VisitsLaws.{visits-add, visits-longer}
+use Rattle.costs.specs.VisitsLaws.{visits-add, visits-longer}
 use Rattle.bridge_pq.proofs.Edited.{lacks-among, lacks-done, lacks-few, lacks-within}
 use Rattle.bridge_pq.proofs.edit.flip_marks.Goals as goal
 

@@ -1,8 +1,8 @@
 use Rattle.std.proofs.Common.{◌≡◌, ◌+◌, length, ap, ◌∙◌, sym, subst, arith, false}
 use Rattle.std.proofs.lemmas.List.Edits.{length-insert}
 use Rattle.retro_base.specs.Edits.{add}
-use Rattle.retro_base.specs.Visits.{VisitsWithin}
-use Rattle.retro_base.specs.VisitsLaws.{visits-add, visits-longer}
+use Rattle.costs.specs.Visits.{VisitsWithin}
+use Rattle.costs.specs.VisitsLaws.{visits-add, visits-longer}
 use Rattle.bridge_pq.specs.declared.marked_row.MarkedRow.{MarkedRow}
 use Rattle.bridge_pq.specs.MarkedRows.{rows_of}
 use Rattle.bridge_pq.proofs.Places.{map-insert}

@@ -1,8 +1,8 @@
 use Rattle.std.proofs.Common.{◌≡◌, ◌≤◌, ◌+◌, length, ap, ◌∙◌, sym, subst, arith}
 use Rattle.std.specs.List.{remove}
 use Rattle.std.proofs.lemmas.List.Edits.{length-insert}
-use Rattle.retro_base.specs.Visits.{VisitsWithin}
-use Rattle.retro_base.specs.VisitsLaws.{visits-add, visits-longer, visits-one_longer}
+use Rattle.costs.specs.Visits.{VisitsWithin}
+use Rattle.costs.specs.VisitsLaws.{visits-add, visits-longer, visits-one_longer}
 use Rattle.retro_base.specs.EditedLists.{remove-insert}
 use Rattle.bridge_pq.specs.declared.marked_row.MarkedRow.{MarkedRow}
 use Rattle.bridge_pq.proofs.Costs.{visits-more}

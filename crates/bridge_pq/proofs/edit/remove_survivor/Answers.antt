@@ -1,5 +1,5 @@
 use Rattle.std.proofs.Common.{length}
-use Rattle.retro_base.specs.VisitsLaws.{visits-add, visits-longer}
+use Rattle.costs.specs.VisitsLaws.{visits-add, visits-longer}
 use Rattle.bridge_pq.proofs.Costs.{visits-more}
 use Rattle.bridge_pq.proofs.Edited.{few-entries, own-among, survivor-changes, cut-survivor}
 use Rattle.bridge_pq.proofs.edit.remove_survivor.Goals as goal

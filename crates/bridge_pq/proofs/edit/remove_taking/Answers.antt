@@ -1,7 +1,7 @@
 use Rattle.std.proofs.Common.{◌≤◌, ◌∙◌, length, ap, arith}
 use Rattle.std.proofs.lemmas.List.Edits.{length-remove}
 use Rattle.retro_base.specs.Edits.{cut}
-use Rattle.retro_base.specs.VisitsLaws.{visits-add, visits-longer}
+use Rattle.costs.specs.VisitsLaws.{visits-add, visits-longer}
 use Rattle.bridge_pq.specs.declared.marked_row.MarkedRow.{MarkedRow}
 use Rattle.bridge_pq.specs.MarkedRows.{rows_of}
 use Rattle.bridge_pq.proofs.Places.{map-remove}

@@ -1,6 +1,6 @@
 use Rattle.std.proofs.Common.{◌≡◌, ◌≤◌, length, subst}
 use Rattle.std.specs.Prelude.{OnOk}
-use Rattle.retro_base.specs.VisitsLaws.{visits-longer, visits-add}
+use Rattle.costs.specs.VisitsLaws.{visits-longer, visits-add}
 use Rattle.retro_base.specs.lemmas.bridges.Entries.{in_contains}
 use Rattle.bridge_pq.proofs.EntryEdits.{put-at, no_shorter}
 use Rattle.bridge_pq.proofs.entry_tree.put_entry.Goals as goal

@@ -2,7 +2,7 @@ use Rattle.std.proofs.Common.{◌≡◌, ◌+◌, ◌-◌, ◌*◌, ◌∙◌, l
 use Rattle.retro_base.specs.Answers.{answer_of}
 use Rattle.retro_base.specs.Bridges.{entries_at}
 use Rattle.retro_base.specs.State.{entries}
-use Rattle.retro_base.specs.VisitsLaws.{visits-more, visits-then}
+use Rattle.costs.specs.VisitsLaws.{visits-more, visits-then}
 use Rattle.bridge_pq.specs.MarkedRows.{rows_of}
 use Rattle.bridge_pq.proofs.Edited.{rows-length}
 use Rattle.bridge_pq.proofs.Moved.{as_long, few_there, held_there, if_ok, size_there}

@@ -1,5 +1,5 @@
 use Rattle.std.proofs.Common.{◌≡◌, ◌+◌, ◌*◌, ◌≤◌, drop, length}
-use Rattle.retro_base.specs.Visits.{VisitsWithin}
+use Rattle.costs.specs.Visits.{VisitsWithin}
 use Rattle.bridge_pq.specs.Gathered.{after_moves}
 use Rattle.bridge_pq.specs.MarkedEntries.{present_in}
 use Rattle.bridge_pq.proofs.later.hold_after.Given as goal

@@ -1,5 +1,5 @@
 use Rattle.std.proofs.Common.{◌+◌, ◌-◌, ◌*◌, arith}
-use Rattle.retro_base.specs.VisitsLaws.{visits-more}
+use Rattle.costs.specs.VisitsLaws.{visits-more}
 use Rattle.checkpoint_full.specs.Checkpoints.{place_of}
 use Rattle.checkpoint_full.proofs.past.ask_at.Goals as goal
 

@@ -1,7 +1,7 @@
 use Rattle.std.proofs.Common.{◌+◌, ◌<◌, suc, add-one, arith, subst, sym, ◌∙◌}
 use Rattle.retro_base.specs.declared.row.Row.{Row}
 use Rattle.retro_base.specs.Kind.{kind_of}
-use Rattle.fates.specs.Fates.{holders}
+use Rattle.retro_base.specs.Holders.{holders}
 use Rattle.fates.specs.Holding.{Stands}
 use Rattle.fates.proofs.Steps.{few_more, there_first}
 use Rattle.fates.proofs.Windows.{index_within, window_goes, window_stops}

@@ -1,6 +1,6 @@
 use Rattle.std.proofs.Common.{◌≡◌, arith, subst}
 use Rattle.retro_base.specs.Kind.{kind_of}
-use Rattle.fates.specs.Fates.{holders}
+use Rattle.retro_base.specs.Holders.{holders}
 use Rattle.fates.proofs.Steps.{Ready, counted_first, stands_first, few_first}
 use Rattle.fates.proofs.Windows.{window_counted, window_counted_up}
 use Rattle.fates.proofs.fate.standing_after.Goals as goal

@@ -1,7 +1,7 @@
 -- The rows before its own were counted up to here.
 use Rattle.std.proofs.Common.{◌≤◌, ◌-◌}
 use Rattle.retro_base.specs.Kind.{kind_of}
-use Rattle.fates.specs.Fates.{holders}
+use Rattle.retro_base.specs.Holders.{holders}
 use Rattle.fates.proofs.Steps.{Ready}
 use Rattle.fates.proofs.fate.standing_after.Given as goal
 

@@ -1,5 +1,5 @@
 use Rattle.std.proofs.Common.{ℕ, ◌+◌, ◌*◌, ◌≤◌, List, [], ◌∷◌, length, arith}
-use Rattle.retro_base.specs.Digits.{digits}
+use Rattle.costs.specs.Digits.{digits}
 use Rattle.pq_fusion.specs.Wear.{WornRows, unworn}
 use Rattle.pq_fusion.specs.WearLevels.{AreEdits, AreFew}
 use Rattle.pq_fusion.proofs.laws.making_anew_is_rare.Goals as goal

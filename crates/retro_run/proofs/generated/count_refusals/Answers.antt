@@ -1,6 +1,6 @@
 use Rattle.std.proofs.Common.{◌≡◌, true, false}
 use Rattle.script_gen.specs.Coming.{GivesNext}
-use Rattle.timelines.specs.Reaction.{reacts_to}
+use Rattle.reactions.specs.Reaction.{reacts_to}
 use Rattle.retro_run.proofs.Summing.{counts_all, counts_next, state_is}
 use Rattle.retro_run.proofs.generated.count_refusals.Goals as goal
 

@@ -1,7 +1,7 @@
 use Rattle.std.proofs.Common.{◌≡◌, false, refl, arith}
 use Rattle.script_gen.specs.Script.{generated}
-use Rattle.timelines.specs.Answers.{bench_after}
-use Rattle.timelines.specs.Bench.{BenchState, empty_bench}
+use Rattle.reactions.specs.Answers.{bench_after}
+use Rattle.reactions.specs.Bench.{BenchState, empty_bench}
 use Rattle.retro_run.specs.Summary.{refusals}
 use Rattle.retro_run.proofs.Summing.{length-generated, refusals-le}
 use Rattle.retro_run.proofs.generated.sum_up.Goals as goal

@@ -4,7 +4,7 @@ use Rattle.retro_base.specs.Limits.{most_bytes}
 use Rattle.retro_io.specs.FlushLaws.{StaysUnflushed-more, StaysUnflushed-none}
 use Rattle.retro_io.specs.LineReader.{held, line_of, has_ended, limit_of, source_of, taken}
 use Rattle.retro_io.specs.ReaderLaws.{MovesOn-none, MovesOn-then}
-use Rattle.timelines.specs.Reaction.{closing}
+use Rattle.reactions.specs.Reaction.{closing}
 use Rattle.retro_run.specs.Audience.{Audience, audience_by, followed, follows_to}
 use Rattle.retro_run.specs.Delivery.{Writes}
 use Rattle.retro_run.specs.Run.{AppendsOutput, MatchesRefusal}

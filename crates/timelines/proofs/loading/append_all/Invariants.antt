@@ -1,8 +1,8 @@
 use Rattle.std.proofs.Common.{◌≡◌, take}
 use Rattle.retro_base.specs.Timeline.{IsTimeline}
 use Rattle.timeline_undo.specs.Session.{SessionState}
-use Rattle.timelines.specs.Bench.{loaded_session}
-use Rattle.timelines.specs.Reported.{loaded_evidence}
+use Rattle.timelines.specs.Kept.{loaded_session}
+use Rattle.reactions.specs.Reported.{loaded_evidence}
 use Rattle.timelines.proofs.loading.append_all.Given as goal
 
 abbrev pub invariant-loop-index : goal.invariant-loop-index

@@ -3,7 +3,7 @@ use Rattle.std.proofs.Common.{◌≤◌, rules, arith}
 use Rattle.std.proofs.lemmas.Int.{to_z-of_z}
 use Rattle.retro_base.specs.Limits.{most_rows}
 use Rattle.retro_base.specs.Replay.{present}
-use Rattle.timelines.specs.Bench.{size_of}
+use Rattle.reactions.specs.Bench.{size_of}
 use Rattle.timelines.proofs.Sizes.{counted, is_number, size-le}
 use Rattle.timelines.proofs.timelines.size_of.Goals as goal
 

@@ -1,6 +1,6 @@
 use Rattle.std.proofs.Common.{◌≡◌, ◌+◌, length, refl, arith}
-use Rattle.retro_base.specs.Digits.{digits}
-use Rattle.retro_base.specs.VisitsLaws.{digits-monotone}
+use Rattle.costs.specs.Digits.{digits}
+use Rattle.costs.specs.VisitsLaws.{digits-monotone}
 use Rattle.tree_tests.proofs.weighted.fill.Goals as goal
 
 ten : digits 1001 ≡ 10

@@ -4,7 +4,7 @@ use Rattle.bridge_pq.proofs.Edited.{rows-length}
 use Rattle.retro_base.specs.declared.kind.Kind.TheVariants.{Pq}
 use Rattle.retro_base.specs.Answers.{answer_of}
 use Rattle.retro_base.specs.Replay.{state_at}
-use Rattle.retro_base.specs.VisitsLaws.{visits-more, visits-longer}
+use Rattle.costs.specs.VisitsLaws.{visits-more, visits-longer}
 use Rattle.bridge_pq.proofs.EarlierRows.{held_state, is_earlier}
 use Rattle.bridge_pq.proofs.Moved.{if_ok}
 use Rattle.bridge_pq.specs.MarkedRows.{rows_of}

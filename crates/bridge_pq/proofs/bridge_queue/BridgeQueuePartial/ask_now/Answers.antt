@@ -6,7 +6,7 @@ use Rattle.retro_base.specs.declared.question.Answer.TheVariants.{Number}
 use Rattle.retro_base.specs.declared.question.Question.TheVariants.{Size, Min, Nth}
 use Rattle.retro_base.specs.Answers.{answer_of, number_of, key_of}
 use Rattle.retro_base.specs.Replay.{present}
-use Rattle.retro_base.specs.VisitsLaws.{visits-longer}
+use Rattle.costs.specs.VisitsLaws.{visits-longer}
 use Rattle.bridge_pq.specs.MarkedEntries.{present_in}
 use Rattle.bridge_pq.proofs.Costs.{visits-more}
 use Rattle.bridge_pq.proofs.Present.{size-answer, min-answer, nth-answer, entries-few}

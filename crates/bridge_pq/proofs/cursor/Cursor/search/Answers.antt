@@ -1,6 +1,6 @@
 use Rattle.std.proofs.Common.{◌≡◌, ◌≤◌, ◌+◌, ◌-◌, ◌∙◌, length, ap, sym, subst, arith, rules}
 use Rattle.std.specs.List.{slice_get}
-use Rattle.retro_base.specs.Visits.{VisitsWithin}
+use Rattle.costs.specs.Visits.{VisitsWithin}
 use Rattle.bridge_pq.specs.Gathered.{count_to, EndsAt, Left}
 use Rattle.bridge_pq.specs.MarkedEntries.{present_in}
 use Rattle.bridge_pq.proofs.Costs.{visits_read}

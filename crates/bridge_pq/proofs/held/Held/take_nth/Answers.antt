@@ -1,6 +1,6 @@
 use Rattle.std.proofs.Common.{◌≡◌, ◌+◌, ◌-◌, ◌∙◌, min, ap, arith}
 use Rattle.std.specs.List.{slice_get}
-use Rattle.retro_base.specs.VisitsLaws.{visits-again}
+use Rattle.costs.specs.VisitsLaws.{visits-again}
 use Rattle.bridge_pq.specs.Gathered.{HeldLater}
 use Rattle.bridge_pq.proofs.GatheredEntries.{at_most_index, nth_beyond}
 use Rattle.bridge_pq.proofs.held.Held.take_nth.Goals as goal

@@ -1,6 +1,6 @@
 use Rattle.std.proofs.Common.{◌≡◌, ℕ, ◌+◌, ◌*◌}
 use Rattle.std.specs.List.{slice_get}
-use Rattle.retro_base.specs.Visits.{VisitsWithin}
+use Rattle.costs.specs.Visits.{VisitsWithin}
 use Rattle.bridge_pq.proofs.held.Held.take_nth.Given as goal
 
 abbrev pub invariant-loop : goal.invariant-loop

@@ -1,5 +1,5 @@
 use Rattle.std.proofs.Common.{◌≡◌, ◌+◌, ◌-◌, ◌*◌, ◌∙◌, ap, arith}
-use Rattle.retro_base.specs.VisitsLaws.{visits-then}
+use Rattle.costs.specs.VisitsLaws.{visits-then}
 use Rattle.checkpoint_full.specs.Checkpoints.{place_of}
 use Rattle.checkpoint_full.proofs.FirstRows.{place_of-first_of}
 use Rattle.checkpoint_full.proofs.reader.Reader.ask.Goals as goal

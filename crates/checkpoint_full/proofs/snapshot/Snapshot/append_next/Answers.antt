@@ -1,5 +1,5 @@
 use Rattle.std.proofs.Common.{◌∙◌, arith}
-use Rattle.retro_base.specs.VisitsLaws.{visits-then}
+use Rattle.costs.specs.VisitsLaws.{visits-then}
 use Rattle.checkpoint_full.proofs.FirstRows.{checkpoint_can_take, checkpoint_takes}
 use Rattle.checkpoint_full.proofs.snapshot.Snapshot.append_next.Goals as goal
 

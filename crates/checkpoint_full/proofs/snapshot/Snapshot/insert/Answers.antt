@@ -1,6 +1,6 @@
 use Rattle.std.proofs.Common.{◌≤◌, ◌+◌, sym, subst}
-use Rattle.retro_base.specs.Visits.{VisitsWithin}
-use Rattle.retro_base.specs.VisitsLaws.{visits-longer}
+use Rattle.costs.specs.Visits.{VisitsWithin}
+use Rattle.costs.specs.VisitsLaws.{visits-longer}
 use Rattle.checkpoint_full.specs.Checkpoints.{place_of}
 use Rattle.checkpoint_full.proofs.Costs.{no_longer}
 use Rattle.checkpoint_full.proofs.snapshot.Snapshot.insert.Goals as goal

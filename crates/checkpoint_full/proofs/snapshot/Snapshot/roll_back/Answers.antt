@@ -1,5 +1,5 @@
 use Rattle.std.proofs.Common.{◌≡◌, ℕ, ◌+◌, ◌-◌, ◌≤◌, ◌∙◌, ap, arith}
-use Rattle.retro_base.specs.VisitsLaws.{visits-again}
+use Rattle.costs.specs.VisitsLaws.{visits-again}
 use Rattle.checkpoint_full.specs.Checkpoints.{first_of, place_of}
 use Rattle.checkpoint_full.proofs.FirstRows.{one_taken_off, place_of-first_of}
 use Rattle.checkpoint_full.proofs.snapshot.Snapshot.roll_back.Goals as goal

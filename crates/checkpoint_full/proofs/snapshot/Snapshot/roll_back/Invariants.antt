@@ -1,5 +1,5 @@
 use Rattle.std.proofs.Common.{◌≡◌, ◌+◌, ◌-◌, ◌*◌}
-use Rattle.retro_base.specs.Visits.{VisitsWithin}
+use Rattle.costs.specs.Visits.{VisitsWithin}
 use Rattle.checkpoint_full.specs.Checkpoints.{first_of, place_of}
 use Rattle.checkpoint_full.proofs.snapshot.Snapshot.roll_back.Given as goal
 

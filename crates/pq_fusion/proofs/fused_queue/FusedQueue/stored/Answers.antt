@@ -1,6 +1,6 @@
 use Rattle.std.proofs.Common.{◌≡◌, ap, ◌+◌, ◌*◌, ◌^◌, ◌≤◌, length, ◌∙◌, arith, subst}
 use Rattle.retro_base.specs.BridgeTable.{added}
-use Rattle.retro_base.specs.Digits.{digits}
+use Rattle.costs.specs.Digits.{digits}
 use Rattle.pq_fusion.specs.Wear.{WornRows}
 use Rattle.pq_fusion.proofs.Stored.{levels-of_digits, added_few, more_rows}
 use Rattle.pq_fusion.proofs.fused_queue.FusedQueue.stored.Goals as goal

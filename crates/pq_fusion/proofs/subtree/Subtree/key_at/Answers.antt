@@ -1,6 +1,6 @@
 use Rattle.std.proofs.Common.{◌+◌, ◌-◌, ◌*◌, ◌/◌, Some, take, length, arith, rules, refl, ap, sym, ◌∙◌, subst}
 use Rattle.std.proofs.lemmas.Int.{to_z-of_z}
-use Rattle.retro_base.specs.Digits.{digits}
+use Rattle.costs.specs.Digits.{digits}
 use Rattle.pq_fusion.specs.declared.entry_counts.EntryCounts.{EntryCounts}
 use Rattle.pq_fusion.specs.EntryCounts.{left_by}
 use Rattle.pq_fusion.specs.Searches.{walk_of}

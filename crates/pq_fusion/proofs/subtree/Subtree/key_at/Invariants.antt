@@ -1,6 +1,6 @@
 use Rattle.std.proofs.Common.{◌≡◌, ℕ, ◌+◌, ◌-◌, ◌*◌, ◌^◌, ◌<◌, ◌≤◌, Some, take, length, slice_get}
 use Rattle.retro_base.specs.declared.row.Entry.{Entry}
-use Rattle.retro_base.specs.Digits.{digits}
+use Rattle.costs.specs.Digits.{digits}
 use Rattle.pq_fusion.specs.EntryCounts.{left_by}
 use Rattle.pq_fusion.specs.Searches.{rows_down, walk_of}
 use Rattle.pq_fusion.proofs.Added.{IsRanked, key_before}

@@ -1,7 +1,7 @@
 use Rattle.std.proofs.Common.{◌-◌, ◌*◌, List, length, ◌∙◌, ap, arith}
 use Rattle.std.proofs.lemmas.List.{length-take-le}
 use Rattle.retro_base.specs.declared.row.Row.{Row}
-use Rattle.retro_base.specs.VisitsLaws.{visits-more, visits-longer, visits-then}
+use Rattle.costs.specs.VisitsLaws.{visits-more, visits-longer, visits-then}
 use Rattle.retro_base.proofs.partial.Partial.ask_after.Goals as goal
 
 pub returns-then-place-len-clause-visits : goal.returns-then-place-len-clause-visits

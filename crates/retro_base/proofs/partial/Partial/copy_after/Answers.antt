@@ -2,7 +2,7 @@ use Rattle.std.proofs.Common.{ℕ, ◌+◌, ◌-◌, ◌*◌, ◌≤◌, ◌∙�
 use Rattle.std.proofs.lemmas.List.{length-take-le}
 use Rattle.std.specs.List.{insert}
 use Rattle.retro_base.specs.declared.row.Row.{Row}
-use Rattle.retro_base.specs.VisitsLaws.{visits-more, visits-then}
+use Rattle.costs.specs.VisitsLaws.{visits-more, visits-then}
 use Rattle.retro_base.specs.lemmas.FirstRows.{insert_next, next_can_come}
 use Rattle.retro_base.proofs.partial.Partial.copy_after.Goals as goal
 

@@ -1,5 +1,5 @@
 use Rattle.std.proofs.Common.{◌≡◌, ◌-◌, ◌*◌, length, take}
-use Rattle.retro_base.specs.Visits.{VisitsWithin}
+use Rattle.costs.specs.Visits.{VisitsWithin}
 use Rattle.retro_base.proofs.partial.Partial.copy_after.Given as goal
 
 abbrev pub invariant-loop-at : goal.invariant-loop-at

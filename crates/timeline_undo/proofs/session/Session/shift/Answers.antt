@@ -2,7 +2,7 @@ use Rattle.std.proofs.Common.{◌+◌, Some, inl, inr, ap, refl, sym, ◌∙◌,
 use Rattle.std.specs.Option.{option_map}
 use Rattle.timeline_undo.specs.Session.{IsSpentWithin, spent_with}
 use Rattle.timeline_undo.specs.declared.error.EditError.TheVariants.{Fails, NoMemory}
-use Rattle.timeline_undo.specs.Shift.{shift_of}
+use Rattle.retro_base.specs.Shift.{shift_of}
 use Rattle.timeline_undo.specs.Replaced.{step_of_replacement}
 use Rattle.timeline_undo.proofs.InTurn.{in_turn_later, ready, timeline_later}
 use Rattle.timeline_undo.proofs.Rings.{steps-recorded}

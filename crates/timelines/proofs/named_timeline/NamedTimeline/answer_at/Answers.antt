@@ -1,7 +1,7 @@
 use Rattle.std.proofs.Common.{◌≡◌, Some, None, sym, ◌∙◌, ap}
-use Rattle.timelines.specs.declared.outcome.Outcome.TheVariants.{Answered}
-use Rattle.timelines.specs.TimelineEffects.{position_of}
-use Rattle.timelines.specs.Bench.{named}
+use Rattle.reactions.specs.declared.outcome.Outcome.TheVariants.{Answered}
+use Rattle.reactions.specs.TimelineEffects.{position_of}
+use Rattle.timelines.specs.Kept.{named}
 use Rattle.timelines.proofs.Memory.{never_refused}
 use Rattle.timelines.proofs.TimelineEffects.{answers_there, answers_nowhere}
 use Rattle.timelines.proofs.named_timeline.NamedTimeline.answer_at.Goals as goal

@@ -1,6 +1,6 @@
 use Rattle.std.proofs.Common.{◌≡◌, true, false, sym, ◌∙◌, ap}
 use Rattle.retro_base.specs.Questions.{suits}
-use Rattle.timelines.specs.declared.outcome.Outcome.TheVariants.{Answered}
+use Rattle.reactions.specs.declared.outcome.Outcome.TheVariants.{Answered}
 use Rattle.timelines.proofs.TimelineEffects.{answers_unsuited, answers_now}
 use Rattle.timelines.proofs.named_timeline.NamedTimeline.answer_to.Goals as goal
 

@@ -1,7 +1,7 @@
 use Rattle.std.proofs.Common.{sym, ◌∙◌}
 use Rattle.retro_base.specs.Edits.{cut}
-use Rattle.timelines.specs.Bench.{named}
-use Rattle.timelines.specs.declared.outcome.Outcome.TheVariants.{Accepted}
+use Rattle.timelines.specs.Kept.{named}
+use Rattle.reactions.specs.declared.outcome.Outcome.TheVariants.{Accepted}
 use Rattle.timelines.proofs.Memory.{delete_memory}
 use Rattle.timelines.proofs.TimelineEffects.{deletes_nothing, deletes_there, deletes_refused, edits_accepted}
 use Rattle.timelines.proofs.named_timeline.NamedTimeline.delete.Goals as goal

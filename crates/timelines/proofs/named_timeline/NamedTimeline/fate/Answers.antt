@@ -1,6 +1,6 @@
 use Rattle.std.proofs.Common.{sym, ◌∙◌}
 use Rattle.fates.specs.declared.fate.Fate.TheVariants as fates
-use Rattle.timelines.specs.Bench.{named}
+use Rattle.timelines.specs.Kept.{named}
 use Rattle.timelines.proofs.FateOutcomes.{IsRowAt, fate_nowhere, fate_no_item, fate_stays, fate_taken, own_fate, own_replayable}
 use Rattle.timelines.proofs.named_timeline.NamedTimeline.fate.Goals as goal
 

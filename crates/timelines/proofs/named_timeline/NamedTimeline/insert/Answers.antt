@@ -1,8 +1,8 @@
 use Rattle.std.proofs.Common.{◌≡◌, ◌+◌, Some, None, refl, sym, ◌∙◌}
 use Rattle.retro_base.specs.Edits.{add}
-use Rattle.timelines.specs.Bench.{named}
-use Rattle.timelines.specs.declared.outcome.Outcome.TheVariants.{Inserted}
-use Rattle.timelines.specs.TimelineEffects.{new_row, position_of}
+use Rattle.timelines.specs.Kept.{named}
+use Rattle.reactions.specs.declared.outcome.Outcome.TheVariants.{Inserted}
+use Rattle.reactions.specs.TimelineEffects.{new_row, position_of}
 use Rattle.timelines.proofs.Memory.{edit_memory}
 use Rattle.timelines.proofs.TimelineEffects.{edit_refused, edits_accepted, inserts_other_kind, inserts_at_position, inserts_fitting, inserts_nowhere, position_fits}
 use Rattle.timelines.proofs.named_timeline.NamedTimeline.insert.Goals as goal

@@ -1,5 +1,5 @@
 use Rattle.std.proofs.Common.{◌≡◌, length, Some, None, sym, ◌∙◌}
-use Rattle.timelines.specs.TimelineEffects.{position_of}
+use Rattle.reactions.specs.TimelineEffects.{position_of}
 use Rattle.timelines.proofs.Memory.{never_refused}
 use Rattle.timelines.proofs.TimelineEffects.{lists_now, lists_there, lists_nowhere}
 use Rattle.timelines.proofs.named_timeline.NamedTimeline.list.Goals as goal

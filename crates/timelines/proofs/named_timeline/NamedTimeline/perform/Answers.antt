@@ -1,5 +1,5 @@
 use Rattle.std.proofs.Common.{refl}
-use Rattle.timelines.specs.TimelineEffects.{answers, unchanged}
+use Rattle.reactions.specs.TimelineEffects.{answers, unchanged}
 use Rattle.timelines.proofs.AnsweredLine.{other_command, told_by_one}
 use Rattle.timelines.proofs.named_timeline.NamedTimeline.perform.Goals as goal
 

@@ -1,5 +1,5 @@
 use Rattle.std.proofs.Common.{ap, refl}
-use Rattle.timelines.specs.Bench.{named}
+use Rattle.timelines.specs.Kept.{named}
 use Rattle.timelines.proofs.Memory.{redo_memory, redone_memory}
 use Rattle.timelines.proofs.TimelineEffects.{left_by_nothing, redoes_nothing, redone_told}
 use Rattle.timelines.proofs.named_timeline.NamedTimeline.redo.Goals as goal

@@ -1,6 +1,6 @@
 use Rattle.std.proofs.Common.{◌<◌, ap, length}
 use Rattle.retro_base.specs.Limits.{most_rows, next_limit}
-use Rattle.timelines.specs.Bench.{named}
+use Rattle.timelines.specs.Kept.{named}
 use Rattle.timelines.proofs.Memory.{shift_memory, shifted_memory}
 use Rattle.timelines.proofs.TimelineEffects.{made_replays, shift_refused, shifted_told}
 use Rattle.timelines.proofs.named_timeline.NamedTimeline.shift_at.Goals as goal

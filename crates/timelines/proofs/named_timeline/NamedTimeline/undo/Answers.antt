@@ -1,5 +1,5 @@
 use Rattle.std.proofs.Common.{ap, refl}
-use Rattle.timelines.specs.Bench.{named}
+use Rattle.timelines.specs.Kept.{named}
 use Rattle.timelines.proofs.Memory.{undo_memory, undone_memory}
 use Rattle.timelines.proofs.TimelineEffects.{left_by_nothing, undoes_nothing, undone_told}
 use Rattle.timelines.proofs.named_timeline.NamedTimeline.undo.Goals as goal

@@ -1,6 +1,6 @@
 use Rattle.std.proofs.Common.{ap, ◌∙◌}
 use Rattle.std.specs.List.{list_any}
-use Rattle.timelines.specs.Bench.{is_kept_as}
+use Rattle.timelines.specs.Kept.{is_kept_as}
 use Rattle.timelines.proofs.KeptTimelines.{any_shown}
 use Rattle.timelines.proofs.timelines.Timelines.has.Goals as goal
 

@@ -1,5 +1,5 @@
 use Rattle.std.proofs.Common.{ap, ◌∙◌, position}
-use Rattle.timelines.specs.Bench.{is_kept_as}
+use Rattle.timelines.specs.Kept.{is_kept_as}
 use Rattle.timelines.proofs.KeptTimelines.{index_shown}
 use Rattle.timelines.proofs.timelines.Timelines.index_of.Goals as goal
 

@@ -5,11 +5,11 @@ use Rattle.script_grammar.specs.declared.command.Command.TheVariants.{Insert, De
 use Rattle.script_grammar.specs.declared.command.Moment.{Moment}
 use Rattle.script_grammar.specs.declared.command.Query.{Query}
 use Rattle.script_grammar.specs.declared.command.Spot.{Spot}
-use Rattle.timelines.specs.Bench.{NamedTimeline}
-use Rattle.timelines.specs.Reaction.{obeys, on_named}
+use Rattle.reactions.specs.Bench.{NamedTimeline}
+use Rattle.reactions.specs.Reaction.{obeys, on_named}
 use Rattle.timelines.specs.AnsweredLine.{performs}
-use Rattle.timelines.specs.declared.outcome.Outcome.TheVariants.{Refused}
-use Rattle.timelines.specs.declared.outcome.Refusal.TheVariants as refusals
+use Rattle.reactions.specs.declared.outcome.Outcome.TheVariants.{Refused}
+use Rattle.reactions.specs.declared.outcome.Refusal.TheVariants as refusals
 use Rattle.timelines.proofs.AnsweredLine.{told_by}
 use Rattle.timelines.proofs.KeptTimelines.{kept_told, unspent_others}
 use Rattle.timelines.proofs.Named.{on_named_nowhere}

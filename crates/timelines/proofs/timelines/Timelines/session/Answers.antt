@@ -1,5 +1,5 @@
 use Rattle.std.proofs.Common.{sym, ap, ◌∙◌}
-use Rattle.timelines.specs.Bench.{KeptTimeline}
+use Rattle.timelines.specs.Kept.{KeptTimeline}
 use Rattle.timelines.proofs.KeptTimelines.{kept_session, unspent_found}
 use Rattle.timelines.proofs.Named.{session_nowhere}
 use Rattle.timelines.proofs.timelines.Timelines.session.Goals as goal

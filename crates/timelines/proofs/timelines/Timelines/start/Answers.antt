@@ -1,7 +1,8 @@
 use Rattle.std.proofs.Common.{◌≡◌, false, sym, ◌∙◌}
-use Rattle.timelines.specs.declared.outcome.Outcome.TheVariants.{Accepted}
-use Rattle.timelines.specs.Bench.{fresh, has_timeline, shown}
-use Rattle.timelines.specs.Reaction.{with_timeline}
+use Rattle.reactions.specs.declared.outcome.Outcome.TheVariants.{Accepted}
+use Rattle.reactions.specs.Bench.{fresh, has_timeline}
+use Rattle.timelines.specs.Kept.{shown}
+use Rattle.reactions.specs.Reaction.{with_timeline}
 use Rattle.timelines.proofs.KeptTimelines.{shown_more}
 use Rattle.timelines.proofs.Named.{no_room, startable}
 use Rattle.timelines.proofs.timelines.Timelines.start.Goals as goal

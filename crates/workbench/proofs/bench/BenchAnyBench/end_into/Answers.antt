@@ -1,5 +1,5 @@
 use Rattle.std.proofs.Common.{ap, false}
-use Rattle.timelines.specs.Bench.{BenchState}
+use Rattle.reactions.specs.Bench.{BenchState}
 use Rattle.workbench.proofs.Refusals.{kept_after_end}
 use Rattle.workbench.proofs.bench.BenchAnyBench.end_into.Goals as goal
 

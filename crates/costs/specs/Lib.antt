@@ -1,0 +1,3 @@
+pub mod Digits
+pub mod Visits
+pub mod VisitsLaws

@@ -1,0 +1,11 @@
+pub mod Both
+pub mod BothLaws
+pub mod CountLaws
+pub mod Extreme
+pub mod ExtremeLaws
+pub mod PrefixSumLaws
+pub mod SuffixSumLaws
+pub mod Summed
+pub mod SummedLaws
+pub mod Walk
+pub mod WalkLaws
