@@ -9,7 +9,7 @@ use Rattle.std.specs.Int.Signed.{lt_z}
 use Rattle.std.proofs.lemmas.Int.{ints}
 use Rattle.std.proofs.lemmas.List.{take_all, length-map, get_or-map}
 use Rattle.monoid_laws.specs.Measure.{measure_of}
-use Rattle.measures.specs.Summed.{Summed, no_sum, joined_sum}
+use Rattle.monoid_laws.specs.Summed.{Summed, no_sum, joined_sum}
 use Rattle.retro_base.specs.declared.row.Entry.{Entry}
 use Rattle.retro_base.specs.EntriesInOrder.{AreInOrder}
 use Rattle.retro_base.specs.OrderLaws.{all_weaker}

@@ -6,9 +6,9 @@ use Rattle.std.proofs.lemmas.Bool.Decides.{nat_tests}
 use Rattle.std.proofs.lemmas.Int.{ints}
 use Rattle.std.proofs.lemmas.List.{length-map}
 use Rattle.std.specs.List.{slice_range}
-use Rattle.measures.specs.Extreme.{Extreme}
-use Rattle.measures.specs.Summed.{sum_to}
-use Rattle.measures.specs.PrefixSumLaws.{sum-split}
+use Rattle.monoid_laws.specs.Extreme.{Extreme}
+use Rattle.monoid_laws.specs.Summed.{sum_to}
+use Rattle.monoid_laws.specs.PrefixSumLaws.{sum-split}
 use Rattle.retro_base.specs.declared.row.Entry.{Entry}
 use Rattle.retro_base.specs.Bridges.{survivors, IsBridge, IsLastBridge, IsFirstBridge}
 use Rattle.retro_base.specs.Carried.{IsPqHistory}

@@ -4,7 +4,7 @@ use Rattle.std.specs.Prelude.{nat_lt, nat_le}
 use Rattle.std.proofs.lemmas.Int.{ints}
 use Rattle.std.proofs.lemmas.Bool.{cases_lt}
 use Rattle.std.proofs.lemmas.Bool.Decides.{nat_tests}
-use Rattle.measures.specs.Summed.{sum_to}
+use Rattle.monoid_laws.specs.Summed.{sum_to}
 use Rattle.bridge_pq.specs.Dips.{falls_in, place_in, lower, dip_of, is_lowest_up_to}
 use Rattle.bridge_pq.specs.MarkedRows.{one_dip-items}
 

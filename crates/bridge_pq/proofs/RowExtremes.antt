@@ -6,7 +6,7 @@ use Rattle.std.specs.Ordering.{is_gt, flip_args}
 use Rattle.std.specs.declared.cmp.Ordering.{Ordering}
 use Rattle.std.proofs.lemmas.List.{take_all, length-drop}
 use Rattle.std.proofs.lemmas.Option.{slice_get_within}
-use Rattle.measures.specs.Extreme.{NoElement, IsFirstGreatest, IsGreatestOffset}
+use Rattle.monoid_laws.specs.Extreme.{NoElement, IsFirstGreatest, IsGreatestOffset}
 use Rattle.retro_base.specs.declared.row.Entry.{Entry}
 use Rattle.retro_base.specs.declared.row.Row.{Row}
 use Rattle.retro_base.specs.Better.{comes_after, best_among}

@@ -4,10 +4,10 @@ use Rattle.std.specs.List.{fold}
 use Rattle.std.specs.declared.cmp.Ordering.{Ordering}
 use Rattle.std.specs.Ordering.{flip_args}
 use Rattle.std.proofs.lemmas.Int.{ints}
-use Rattle.measures.specs.Both.{joined_both}
-use Rattle.measures.specs.Extreme.{Extreme, no_extreme, joined_extreme, one_element, extreme_of}
+use Rattle.monoid_laws.specs.Both.{joined_both}
+use Rattle.monoid_laws.specs.Extreme.{Extreme, no_extreme, joined_extreme, one_element, extreme_of}
 use Rattle.monoid_laws.specs.Measure.{measure_of}
-use Rattle.measures.specs.Summed.{sum_of, sum_to}
+use Rattle.monoid_laws.specs.Summed.{sum_of, sum_to}
 use Rattle.bridge_pq.specs.Dips.{Dip, no_dip, one_dip, joined_dip, dip_of}
 use Rattle.retro_base.specs.declared.row.Entry.{Entry}
 use Rattle.retro_base.specs.declared.row.Row.{Row}
@@ -16,7 +16,7 @@ use Rattle.retro_base.specs.Weights.{added_by, weight, weight_as, sum_of_weights
 use Rattle.bridge_pq.specs.declared.marked_row.MarkedRow.{MarkedRow}
 use Rattle.retro_base.specs.MarkedChange.{is_one_of, dead_in, alive_in}
 use Rattle.bridge_pq.specs.MarkedRows.{rows_of, AreMarked, weight_in, weights_of, row_measure}
-use Rattle.measures.specs.SummedLaws.{add_assoc}
+use Rattle.monoid_laws.specs.SummedLaws.{add_assoc}
 
 -- the dead and the survivors that the rows add
 abbrev pub dead_of : List MarkedRow → List (Option Entry)

@@ -1,7 +1,7 @@
 -- Entries in their order, each with a mark that tells whether it is in the present.
 use Rattle.std.specs.Prelude.{◌≡◌, pos, Bool, true, not, List, [], ◌∷◌, map, if◌then◌else◌, refl}
 use Rattle.std.specs.List.{AllByRecursion, filter}
-use Rattle.measures.specs.Summed.{Summed, one_sum}
+use Rattle.monoid_laws.specs.Summed.{Summed, one_sum}
 use Rattle.retro_base.specs.declared.row.Entry.{Entry}
 use Rattle.retro_base.specs.Bridges.{is_among, same_entry}
 use Rattle.retro_base.specs.State.{comes_before}

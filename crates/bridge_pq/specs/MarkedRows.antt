@@ -3,10 +3,10 @@ use Rattle.std.specs.Prelude.{◌≡◌, ℤ, pos, negsuc, Bool, List, map, if�
 use Rattle.std.specs.Prelude.{Option, Some, None}
 use Rattle.std.specs.List.{AllByRecursion}
 use Rattle.std.specs.Ordering.{flip_args}
-use Rattle.measures.specs.Both.{joined_both}
-use Rattle.measures.specs.BothLaws.{both_laws}
-use Rattle.measures.specs.Extreme.{Extreme, no_extreme, joined_extreme, one_element}
-use Rattle.measures.specs.ExtremeLaws.{extreme_laws, least_laws}
+use Rattle.monoid_laws.specs.Both.{joined_both}
+use Rattle.monoid_laws.specs.BothLaws.{both_laws}
+use Rattle.monoid_laws.specs.Extreme.{Extreme, no_extreme, joined_extreme, one_element}
+use Rattle.monoid_laws.specs.ExtremeLaws.{extreme_laws, least_laws}
 use Rattle.monoid_laws.specs.Laws.{MonoidLaws}
 use Rattle.bridge_pq.specs.EntryOrder.{entry_order, entry_total}
 use Rattle.retro_base.specs.declared.row.Entry.{Entry}

@@ -1,7 +1,7 @@
 //! What a range of entries measures.
 
 ghost use Rattle.std.specs.Prelude.{◌≡◌, pos, if◌then◌else◌};
-ghost use Rattle.measures.specs.Summed.{one_sum};
+ghost use Rattle.monoid_laws.specs.Summed.{one_sum};
 
 use monoid_laws::Monoid;
 use std::marker::Model;
@@ -15,7 +15,7 @@ pub(crate) struct EntryMeasure {
 
 impl Model for EntryMeasure {
     ghost use Rattle.std.specs.Prelude.{pos, nat_abs, ◌≤◌};
-    ghost use Rattle.measures.specs.Summed.{Summed};
+    ghost use Rattle.monoid_laws.specs.Summed.{Summed};
 
     ghost Value = { Summed };
 
@@ -46,8 +46,8 @@ impl EntryMeasure {
 }
 
 impl Monoid for EntryMeasure {
-    ghost use Rattle.measures.specs.Summed.{no_sum, joined_sum};
-    ghost use Rattle.measures.specs.SummedLaws.{sum_laws};
+    ghost use Rattle.monoid_laws.specs.Summed.{no_sum, joined_sum};
+    ghost use Rattle.monoid_laws.specs.SummedLaws.{sum_laws};
 
     ghost items_of = { λ m. m.items };
 

@@ -3,7 +3,7 @@
 ghost use Rattle.std.specs.Prelude.{◌≡◌, ◌+◌, ◌^◌, ◌<◌, false, None, Some, IfSome};
 ghost use Rattle.std.specs.Option.{option_map};
 ghost use Rattle.std.specs.Ordering.{flip_args};
-ghost use Rattle.measures.specs.Extreme.{first_greatest, moved, IsOffsetWithin};
+ghost use Rattle.monoid_laws.specs.Extreme.{first_greatest, moved, IsOffsetWithin};
 ghost use Rattle.bridge_pq.specs.EntryOrder.{entry_order};
 ghost use Rattle.bridge_pq.specs.ExtremeEntries.{holds_none};
 

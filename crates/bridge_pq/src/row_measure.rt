@@ -2,7 +2,7 @@
 
 ghost use Rattle.std.specs.Prelude.{◌≡◌, ◌+◌, ◌-◌, ◌^◌, ◌<◌, pos, negsuc, List, Option, Some, None};
 ghost use Rattle.std.specs.Ordering.{flip_args};
-ghost use Rattle.measures.specs.Extreme.{extreme_of, one_element, IsGreatestOffset};
+ghost use Rattle.monoid_laws.specs.Extreme.{extreme_of, one_element, IsGreatestOffset};
 ghost use Rattle.retro_base.specs.declared.row.Entry.{Entry};
 ghost use Rattle.bridge_pq.specs.EntryOrder.{entry_order};
 ghost use Rattle.bridge_pq.specs.Dips.{one_dip, place_in, lower};
@@ -26,7 +26,7 @@ pub(crate) struct RowMeasure {
 
 // Clauses see three measures side by side, a walk and two extremes; here they share one number of rows.
 impl Model for RowMeasure {
-    ghost use Rattle.measures.specs.Extreme.{Extreme, IsOffsetWithin};
+    ghost use Rattle.monoid_laws.specs.Extreme.{Extreme, IsOffsetWithin};
     ghost use Rattle.retro_base.specs.declared.row.Entry.{Entry};
     ghost use Rattle.bridge_pq.specs.Dips.{Dip, IsDip, falls_in, place_in, low_of};
     ghost use Rattle.bridge_pq.specs.DipLaws.{falls_back, place_back};

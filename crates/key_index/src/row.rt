@@ -3,8 +3,7 @@
 ghost use Rattle.std.specs.Prelude.{◌≡◌};
 ghost use Rattle.key_index.specs.KeyRows.{key_of};
 
-use measures::Count;
-use monoid_laws::Measured;
+use monoid_laws::{Count, Measured};
 use retro_base::Op;
 use std::marker::Model;
 

@@ -3,8 +3,7 @@ ghost use Rattle.std.specs.Prelude.{◌≡◌, ◌-◌, ◌<◌, ◌≤◌, ◌^
 ghost use Rattle.lifetime_segments.specs.Lifetimes.{holds};
 ghost use Rattle.lifetime_segments.specs.Tries.{Lies, ending, in_first, is_whole, in_second, seen_from};
 
-use measures::Count;
-use monoid_laws::Measured;
+use monoid_laws::{Count, Measured};
 
 /// An item, and the labels at which it is there: those from `from` to before `to`.
 #[derive(Clone, Copy)]

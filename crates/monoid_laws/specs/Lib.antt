@@ -1,3 +1,14 @@
-pub mod Laws
-pub mod Measure
-pub mod MeasureLaws
+pub mod Both
+pub mod BothLaws
+pub mod CountLaws
+pub mod Extreme
+pub mod ExtremeLaws
+pub mod PrefixSumLaws
+pub mod SuffixSumLaws
+pub mod Summed
+pub mod SummedLaws
+pub mod Walk
+pub mod WalkLaws
+pub use Rattle.monoids.specs.Laws
+pub use Rattle.monoids.specs.Measure
+pub use Rattle.monoids.specs.MeasureLaws

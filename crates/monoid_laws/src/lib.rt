@@ -1,23 +1,35 @@
-//! The laws by which ranges of items are measured, so that a balanced tree can keep what it measures.
+//! Measures of ranges of items: how many they are, their sum, the least sum of a prefix, their greatest element.
 //!
-//! A `Monoid` says what a range of items amounts to. Two neighbouring ranges are joined without a look at their items, a range
-//! of no items changes nothing, and it does not matter which of three neighbours are joined first. These laws are part of the
-//! trait, and each implementation proves them, so that a tree which keeps one value a subtree answers for any range after a few
-//! joins. What is `Measured` is an item of such a range. The measures themselves are those of `measures`.
+//! Each is a `Monoid` of `monoids`, over which a balanced tree can be built, and proves its laws. Numbers and sums tell too what
+//! they are `without` some items, and `with` more.
 //!
-//! Where the value tells what is left of a range without some of its items, or what it is with more among them, it says so by
-//! `without` and `with`, so that an item that goes or comes costs no look at the others.
+//! | Type | What a range amounts to |
+//! |---|---|
+//! | `Count` | the number of its items |
+//! | `Sum` | the exact sum of 64-bit numbers |
+//! | `LeastPrefix`, `GreatestPrefix` | the sum of signs, and the least or the greatest sum of a prefix |
+//! | `Greatest`, `Least` | the first of the greatest or the least elements that are there, and its offset |
+//! | `Both` | two values side by side |
 //!
-//! Each value knows how many items it was made of. That number fits 32 bits, and bounds every other
-//! field, so that no sum wraps: joining asks for nothing else.
+//! A `Counted` makes an item of any value that is to be found by its place alone: ranges of them measure a `Count`.
 //!
-//! Contracts say what a value means by the list that it was made of: `measure_of` of
-//! specs/Measure.antt joins the values of a list's items. specs/MeasureLaws.antt has what the laws give of it, for the proofs of
-//! the layer above.
+//! Each reader says what it answers of the list that a value was made of (`measure_of` of `monoids`). The laws of these
+//! readings stand in specs/, for the proofs of the layers above: specs/PrefixSumLaws.antt and specs/SuffixSumLaws.antt among them.
 //!
-//! - `monoid`: the two traits.
+//! - `count`, `sum`, `prefix`, `extreme`, `both`: the measures. `counted`: an item that is counted alone.
 #![tactic(auto)]
 
-mod monoid;
+mod both;
+mod count;
+mod counted;
+mod extreme;
+mod prefix;
+mod sum;
 
-pub use monoid::{Measured, Monoid};
+pub use both::Both;
+pub use count::Count;
+pub use counted::Counted;
+pub use extreme::{Greatest, Least};
+pub use monoids::{Measured, Monoid};
+pub use prefix::{GreatestPrefix, LeastPrefix};
+pub use sum::Sum;

@@ -4,7 +4,7 @@ ghost use Rattle.std.specs.Prelude.{◌≡◌, ◌+◌, ◌*◌, ◌^◌, ◌<�
 ghost use Rattle.order_labels.specs.Labels.{exponent, gap_of, least_gap, spread, label_limit};
 ghost use Rattle.retro_base.specs.Limits.{most_rows};
 
-use measures::Counted;
+use monoid_laws::Counted;
 use weighted_tree::{Tree, uncounted};
 
 /// The label of a row, as it stands in the tree.

@@ -11,7 +11,7 @@ use crate::indexed_rows::IndexedRows;
 use crate::numbers::{add, forget};
 use crate::run::Run;
 use crate::runs::{run_for, run_of, start_of};
-use measures::Counted;
+use monoid_laws::Counted;
 use retro_base::{NoMemory, PackedRow, Row};
 use weighted_tree::uncounted;
 

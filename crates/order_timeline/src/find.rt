@@ -10,7 +10,7 @@ ghost use Rattle.retro_base.specs.Timeline.{TimesNeverFall};
 use crate::divide::LONGEST_RUN;
 use crate::indexed_rows::IndexedRows;
 use crate::runs::start_of;
-use measures::Counted;
+use monoid_laws::Counted;
 use retro_base::{PackedRow, Row};
 use weighted_tree::{Tree, uncounted};
 

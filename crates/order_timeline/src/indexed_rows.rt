@@ -6,7 +6,7 @@ ghost use Rattle.order_timeline.specs.IndexedRows.{KeepsRows};
 use crate::names::Names;
 use crate::numbers::Numbers;
 use crate::run::Run;
-use measures::Counted;
+use monoid_laws::Counted;
 use retro_base::PackedRow;
 use std::alloc::Global;
 use weighted_tree::Tree;

@@ -7,7 +7,7 @@ ghost use Rattle.retro_base.specs.Limits.{most_rows};
 
 use crate::run_name::RunName;
 use crate::table::Table;
-use measures::Counted;
+use monoid_laws::Counted;
 use order_labels::Labels;
 use retro_base::NoMemory;
 use std::alloc::Global;

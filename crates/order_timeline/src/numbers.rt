@@ -7,7 +7,7 @@ ghost use Rattle.retro_base.specs.Timeline.{HaveOwnNumbers};
 
 use crate::page::{Page, SPAN};
 use crate::run_name::RunName;
-use measures::Counted;
+use monoid_laws::Counted;
 use retro_base::{NoMemory, PackedRow};
 use std::alloc::Global;
 use std::marker::Model;

@@ -5,9 +5,9 @@ use Rattle.std.specs.Int.Signed.{le_z}
 use Rattle.std.proofs.lemmas.Bool.{cases_Bool, or_parts}
 use Rattle.std.proofs.Math.Bool.{or-true}
 use Rattle.weighted_tree.specs.Search.{IsFirstOrNone, IsLastOrNone}
-use Rattle.measures.specs.Walk.{walk_of, height_of}
-use Rattle.measures.specs.PrefixSumLaws as prefixes
-use Rattle.measures.specs.SuffixSumLaws as suffixes
+use Rattle.monoid_laws.specs.Walk.{walk_of, height_of}
+use Rattle.monoid_laws.specs.PrefixSumLaws as prefixes
+use Rattle.monoid_laws.specs.SuffixSumLaws as suffixes
 use Rattle.retro_base.specs.declared.op.Op.{Op}
 use Rattle.retro_base.specs.declared.row.Row.{Row}
 use Rattle.prefix_trees.specs.declared.growth.End.{End}

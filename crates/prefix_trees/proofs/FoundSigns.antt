@@ -7,8 +7,8 @@ use Rattle.std.specs.Int.Signed.{lt_z}
 use Rattle.weighted_tree.specs.Search.{HoldsNowhere, IsFirstPlace, IsLastPlace, IsRising}
 use Rattle.prefix_trees.specs.SignPrefixes.{signs_of, IsFirstAtMost, IsLastAtMost, NoneAtMost, marks_in, IsKthMarked}
 use Rattle.prefix_trees.specs.SignWalks.{falls_to, keeps_at, has_more_marks}
-use Rattle.measures.specs.PrefixSumLaws as prefixes
-use Rattle.measures.specs.SuffixSumLaws as suffixes
+use Rattle.monoid_laws.specs.PrefixSumLaws as prefixes
+use Rattle.monoid_laws.specs.SuffixSumLaws as suffixes
 use Rattle.prefix_trees.specs.MarkLaws.{marks-rise, kth-is}
 
 module _ (items : List (ℤ × Bool)) (from to : ℕ) (value : ℤ) where

@@ -4,11 +4,11 @@ use Rattle.std.specs.List.{slice_range}
 use Rattle.std.specs.Int.Signed.{le_z}
 use Rattle.std.proofs.lemmas.Int.{ints}
 use Rattle.std.proofs.lemmas.List.{take-map, drop-map}
-use Rattle.measures.specs.Walk.{Walk, no_walk, one_step, joined_walk, walk_of, end_of}
-use Rattle.measures.specs.WalkLaws.{end-walk_of}
-use Rattle.measures.specs.Both.{joined_both}
+use Rattle.monoid_laws.specs.Walk.{Walk, no_walk, one_step, joined_walk, walk_of, end_of}
+use Rattle.monoid_laws.specs.WalkLaws.{end-walk_of}
+use Rattle.monoid_laws.specs.Both.{joined_both}
 use Rattle.monoid_laws.specs.Measure.{measure_of}
-use Rattle.measures.specs.Summed.{sum_of}
+use Rattle.monoid_laws.specs.Summed.{sum_of}
 use Rattle.retro_base.specs.declared.op.Op.{Op}
 use Rattle.retro_base.specs.declared.row.Row.{Row}
 use Rattle.prefix_trees.specs.declared.growth.End.{End}

@@ -3,11 +3,11 @@ use Rattle.std.proofs.Common.{◌≡◌, ℕ, zero, suc, ◌+◌, ◌-◌, ℤ, 
 use Rattle.std.specs.Prelude.{if◌then◌else◌}
 use Rattle.std.proofs.lemmas.Int.{ints}
 use Rattle.std.specs.List.{slice_range}
-use Rattle.measures.specs.Walk.{Walk, no_walk, one_step, joined_walk, walk_of, end_of}
-use Rattle.measures.specs.WalkLaws.{end-walk_of}
-use Rattle.measures.specs.Both.{joined_both}
+use Rattle.monoid_laws.specs.Walk.{Walk, no_walk, one_step, joined_walk, walk_of, end_of}
+use Rattle.monoid_laws.specs.WalkLaws.{end-walk_of}
+use Rattle.monoid_laws.specs.Both.{joined_both}
 use Rattle.monoid_laws.specs.Measure.{measure_of}
-use Rattle.measures.specs.Summed.{sum_of}
+use Rattle.monoid_laws.specs.Summed.{sum_of}
 use Rattle.prefix_trees.specs.SignPrefixes.{signs_of, prefix, marks_in}
 use Rattle.prefix_trees.specs.SignWalks.{one_walk}
 

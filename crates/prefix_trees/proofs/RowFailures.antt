@@ -3,7 +3,7 @@ use Rattle.std.proofs.Common.{◌≡◌, ℕ, ◌+◌, ◌-◌, ◌<◌, ◌≤�
 use Rattle.std.specs.Int.Signed.{le_z}
 use Rattle.std.specs.Prelude.{slice_get}
 use Rattle.std.specs.List.{insert, remove}
-use Rattle.measures.specs.PrefixSumLaws.{le_true}
+use Rattle.monoid_laws.specs.PrefixSumLaws.{le_true}
 use Rattle.retro_base.specs.declared.op.Op.{Op}
 use Rattle.retro_base.specs.declared.row.Row.{Row}
 use Rattle.prefix_trees.specs.Growth.{sign_of}

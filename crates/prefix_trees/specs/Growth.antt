@@ -2,7 +2,7 @@
 -- A queue and a deque are seen from the left, a stack has its top there.
 use Rattle.std.specs.Prelude.{ℕ, ℤ, pos, negsuc, List, map}
 use Rattle.std.specs.Prelude.{Option, Some, None}
-use Rattle.measures.specs.Summed.{sum_to}
+use Rattle.monoid_laws.specs.Summed.{sum_to}
 use Rattle.retro_base.specs.declared.kind.Kind.{Kind}
 use Rattle.retro_base.specs.declared.kind.Kind.TheVariants.{Queue, Stack, Deque, Dict, Pq}
 use Rattle.retro_base.specs.declared.op.Op.{Op}

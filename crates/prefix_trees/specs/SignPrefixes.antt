@@ -1,7 +1,7 @@
 -- The prefix sums of signs with marks, and the places that are searched among them.
 use Rattle.std.specs.Prelude.{◌≡◌, ℕ, ◌+◌, ◌<◌, ◌≤◌, ℤ, ◌<ℤ◌, ◌≤ℤ◌, Bool, true, List, [], ◌∷◌, map, take, slice_get}
 use Rattle.std.specs.Prelude.{Option, Some, MatchOption, if◌then◌else◌}
-use Rattle.measures.specs.Summed.{sum_to}
+use Rattle.monoid_laws.specs.Summed.{sum_to}
 
 -- the signs alone
 abbrev pub signs_of : List (ℤ × Bool) → List ℤ

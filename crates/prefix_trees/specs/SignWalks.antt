@@ -2,7 +2,7 @@
 use Rattle.std.specs.Prelude.{◌≡◌, ℕ, ℤ, pos, ◌+ℤ◌, ◌-ℤ◌, Bool, List, take, if◌then◌else◌}
 use Rattle.std.specs.List.{slice_range}
 use Rattle.std.specs.Int.Signed.{le_z, lt_z}
-use Rattle.measures.specs.Walk.{Walk, one_step, walk_of, lowest_of, height_of}
+use Rattle.monoid_laws.specs.Walk.{Walk, one_step, walk_of, lowest_of, height_of}
 use Rattle.prefix_trees.specs.SignPrefixes.{signs_of, prefix, marks_in}
 use Rattle.prefix_trees.specs.Walks.{one_step-items}
 

@@ -1,7 +1,7 @@
 -- What a range of rows measures: three walks, of the growth of the whole line, at its left end and at its right end.
 use Rattle.std.specs.Prelude.{◌≡◌, ℤ, pos, negsuc, refl}
 use Rattle.retro_base.specs.declared.row.Row.{Row}
-use Rattle.measures.specs.Walk.{Walk, one_step}
+use Rattle.monoid_laws.specs.Walk.{Walk, one_step}
 use Rattle.prefix_trees.specs.declared.growth.End.{End}
 use Rattle.prefix_trees.specs.declared.growth.End.TheVariants.{Left, Right}
 use Rattle.prefix_trees.specs.Growth.{sign_of, left_growth, right_growth}

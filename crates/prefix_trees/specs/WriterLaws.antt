@@ -12,7 +12,7 @@ use Rattle.std.proofs.lemmas.Option.{slice_get_within}
 use Rattle.retro_base.specs.Facts.{get_taken, one_at}
 use Rattle.retro_base.specs.Kind.{kind_of}
 use Rattle.retro_base.specs.lemmas.Replayable.{all_before}
-use Rattle.measures.specs.SummedLaws.{zero_add}
+use Rattle.monoid_laws.specs.SummedLaws.{zero_add}
 
 -- the row at the place wrote the item at the index
 pub record IsWrittenAt (rows : List Row) (items : List ℤ) (index place : ℕ) : Type 0 where

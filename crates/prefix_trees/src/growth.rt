@@ -1,7 +1,7 @@
 //! The ends of a line of items, and how operations let it grow there.
 
 ghost use Rattle.std.specs.Prelude.{◌≡◌};
-ghost use Rattle.measures.specs.Walk.{IsSign};
+ghost use Rattle.monoid_laws.specs.Walk.{IsSign};
 ghost use Rattle.prefix_trees.specs.Growth.{sign_of, value_of, left_growth, right_growth};
 
 use retro_base::Op;

@@ -2,13 +2,12 @@
 
 ghost use Rattle.std.specs.Prelude.{◌≡◌, ◌+ℤ◌, ◌||◌};
 ghost use Rattle.std.specs.Int.Signed.{le_z};
-ghost use Rattle.measures.specs.Walk.{end_of, lowest_of, height_of};
+ghost use Rattle.monoid_laws.specs.Walk.{end_of, lowest_of, height_of};
 ghost use Rattle.prefix_trees.specs.Walks.{walk_at};
 ghost use Rattle.prefix_trees.specs.declared.growth.End.TheVariants.{Left, Right};
 
 use crate::growth::{End, left_growth, right_growth, sign_of};
-use measures::{Both, LeastPrefix};
-use monoid_laws::Measured;
+use monoid_laws::{Both, LeastPrefix, Measured};
 use retro_base::{PackedRow, Row};
 use std::marker::Model;
 

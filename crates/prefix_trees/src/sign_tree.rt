@@ -2,7 +2,7 @@
 
 ghost use Rattle.std.specs.Prelude.{◌≡◌, pos, ◌+◌, ◌^◌, ◌<◌, ◌≤◌, [], length, slice_get, Some, OnOk, OnErr, IfOk};
 ghost use Rattle.std.specs.List.{insert, remove};
-ghost use Rattle.measures.specs.Walk.{IsSign, end_of, lowest_of, height_of};
+ghost use Rattle.monoid_laws.specs.Walk.{IsSign, end_of, lowest_of, height_of};
 ghost use Rattle.costs.specs.Visits.{VisitsWithin};
 ghost use Rattle.prefix_trees.specs.SignPrefixes.{prefix, FindsFirstAtMost, FindsLastAtMost, FindsKthMarked};
 ghost use Rattle.prefix_trees.specs.SignWalks.{falls_to, keeps_at, has_more_marks};

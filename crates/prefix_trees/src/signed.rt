@@ -1,10 +1,9 @@
 //! A sign with a mark, as it is measured.
 
 ghost use Rattle.std.specs.Prelude.{◌≡◌};
-ghost use Rattle.measures.specs.Walk.{IsSign};
+ghost use Rattle.monoid_laws.specs.Walk.{IsSign};
 
-use measures::{Both, LeastPrefix};
-use monoid_laws::Measured;
+use monoid_laws::{Both, LeastPrefix, Measured};
 use std::marker::Model;
 
 /// What a range of signs measures: the walk of the signs, and that of their marks.
@@ -19,7 +18,7 @@ pub(crate) struct Signed {
 
 impl Model for Signed {
     ghost use Rattle.std.specs.Prelude.{ℤ, Bool};
-    ghost use Rattle.measures.specs.Walk.{IsSign};
+    ghost use Rattle.monoid_laws.specs.Walk.{IsSign};
 
     ghost Value = { ℤ × Bool };
 

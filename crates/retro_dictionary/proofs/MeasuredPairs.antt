@@ -6,7 +6,7 @@ use Rattle.std.specs.Int.RustNames.{FitsSigned}
 use Rattle.std.proofs.lemmas.Int.{ints, int_wrap_fits}
 use Rattle.std.proofs.lemmas.List.{length-take-le, length-drop}
 use Rattle.monoid_laws.specs.Measure.{measure_of}
-use Rattle.measures.specs.Summed.{Summed, no_sum, joined_sum}
+use Rattle.monoid_laws.specs.Summed.{Summed, no_sum, joined_sum}
 use Rattle.retro_base.specs.Answers.{sum_of_values}
 use Rattle.retro_dictionary.specs.PairMeasure.{one_pair}
 use Rattle.retro_dictionary.specs.declared.pairs.Found.{Found}

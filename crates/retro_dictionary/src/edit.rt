@@ -20,7 +20,7 @@ use crate::relabel::put_relabelled;
 use crate::search::PairSearch;
 use key_index::KeyIndex;
 use lifetime_segments::Segments;
-use measures::Counted;
+use monoid_laws::Counted;
 use order_labels::Labels;
 use retro_base::{NoMemory, Op, PackedRow, Row};
 use weighted_tree::{Tree, uncounted};

@@ -6,7 +6,7 @@ ghost use Rattle.retro_dictionary.specs.Ready.{IsLabelled};
 use crate::search::PairSearch;
 use key_index::KeyIndex;
 use lifetime_segments::Segments;
-use measures::Counted;
+use monoid_laws::Counted;
 use order_labels::Labels;
 use retro_base::PackedRow;
 use std::alloc::Global;

@@ -1,7 +1,6 @@
 //! Keys with values, ranges of keys, and what is found of one.
 
-use measures::Sum;
-use monoid_laws::Measured;
+use monoid_laws::{Measured, Sum};
 use std::marker::Model;
 
 /// A key of a dictionary with its value.

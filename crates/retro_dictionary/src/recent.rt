@@ -4,7 +4,7 @@ ghost use Rattle.std.specs.Prelude.{◌≡◌, ◌≤◌, length, if◌then◌el
 ghost use Rattle.retro_dictionary.specs.declared.recent.RecentNeighbour.TheVariants.{Before, After, Neither};
 ghost use Rattle.retro_dictionary.specs.RowLabels.{is_recent, recent_beside};
 
-use measures::Counted;
+use monoid_laws::Counted;
 use retro_base::PackedRow;
 use weighted_tree::{Tree, uncounted};
 

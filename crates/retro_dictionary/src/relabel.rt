@@ -18,7 +18,7 @@ use crate::lifetimes::{key_of, label_or_end, put_by};
 use crate::search::PairSearch;
 use key_index::{KeyIndex, Labels2};
 use lifetime_segments::Segments;
-use measures::Counted;
+use monoid_laws::Counted;
 use order_labels::{Labels, gap_of};
 use retro_base::{NoMemory, Op, PackedRow, Row};
 use std::alloc::Global;

@@ -3,7 +3,7 @@ use Rattle.std.proofs.Common.{◌≡◌, ℕ, zero, suc, ℤ, pos, ◌+ℤ◌, �
 use Rattle.std.proofs.lemmas.Int.{ints}
 use Rattle.std.specs.List.{slice_range}
 use Rattle.std.specs.Int.Signed.{le_z}
-use Rattle.measures.specs.Summed.{one_sum, no_sum, joined_sum, sum_of}
+use Rattle.monoid_laws.specs.Summed.{one_sum, no_sum, joined_sum, sum_of}
 use Rattle.monoid_laws.specs.Measure.{measure_of}
 use Rattle.weighted_tree.specs.Search.{IsRising}
 

@@ -1,7 +1,6 @@
 //! The measures.
 
-use measures::{Both, Count, Greatest, GreatestPrefix, Least, LeastPrefix, Sum};
-use monoid_laws::Monoid;
+use monoid_laws::{Both, Count, Greatest, GreatestPrefix, Least, LeastPrefix, Monoid, Sum};
 
 #[test]
 fn sums_are_exact(rt: HostRuntime) {

@@ -1,6 +1,6 @@
 //! Signs and their prefixes.
 
-ghost use Rattle.measures.specs.Walk.{IsSign};
+ghost use Rattle.monoid_laws.specs.Walk.{IsSign};
 ghost use Rattle.costs.specs.Visits.{OpensCounter};
 
 use prefix_trees::SignTree;

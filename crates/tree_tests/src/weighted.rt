@@ -4,12 +4,11 @@ ghost use Rattle.std.specs.Prelude.{◌≡◌, ◌+◌, ◌^◌, ◌<◌, ◌≤
 ghost use Rattle.std.specs.List.{AllWithin};
 ghost use Rattle.std.specs.List.Sorted.{IsNonDecreasingBy};
 ghost use Rattle.std.specs.Int.Signed.{le_z};
-ghost use Rattle.measures.specs.Summed.{sum_of};
+ghost use Rattle.monoid_laws.specs.Summed.{sum_of};
 ghost use Rattle.costs.specs.Visits.{OpensCounter, VisitsWithin};
 ghost use Rattle.weighted_tree.specs.Search.{IsFirstOrNone};
 
-use measures::Sum;
-use monoid_laws::{Measured, Monoid};
+use monoid_laws::{Measured, Monoid, Sum};
 use retro_base::Steps;
 use std::alloc::Global;
 use std::marker::Brand;
@@ -24,7 +23,7 @@ struct Amount {
 
 impl Measured for Amount {
     ghost use Rattle.std.specs.Prelude.{refl};
-    ghost use Rattle.measures.specs.Summed.{one_sum};
+    ghost use Rattle.monoid_laws.specs.Summed.{one_sum};
 
     type Measure = Sum;
 
@@ -156,7 +155,7 @@ struct Piece {
 
 impl Measured for Piece {
     ghost use Rattle.std.specs.Prelude.{pos, refl};
-    ghost use Rattle.measures.specs.Summed.{one_sum};
+    ghost use Rattle.monoid_laws.specs.Summed.{one_sum};
 
     type Measure = Sum;
 

@@ -4,9 +4,9 @@ use Rattle.std.proofs.lemmas.List.{take_all, take-append-le, drop-append-le, len
 use Rattle.std.proofs.Math.Seq.{take-append-add}
 use Rattle.std.specs.Fn.{Shared, FnReturnsAt}
 use Rattle.std.specs.Borrow.{Bor}
-use Rattle.monoid_laws.specs.Laws.{MonoidLaws}
-use Rattle.monoid_laws.specs.Measure.{measure_of}
-use Rattle.monoid_laws.specs.MeasureLaws.{measure_of-append}
+use Rattle.monoids.specs.Laws.{MonoidLaws}
+use Rattle.monoids.specs.Measure.{measure_of}
+use Rattle.monoids.specs.MeasureLaws.{measure_of-append}
 use Rattle.weighted_tree.specs.Search.{Tells}
 use Rattle.weighted_tree.specs.SearchSteps.{IsSought, IsBoundaryWithin}
 use Rattle.weighted_tree.specs.declared.search.Search.TheVariants.{Found, Open}

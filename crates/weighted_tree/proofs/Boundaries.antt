@@ -4,8 +4,8 @@ use Rattle.std.proofs.lemmas.List.{take_all, take-append-le}
 use Rattle.std.proofs.Math.Seq.{take-append-add}
 use Rattle.std.specs.Fn.{Shared, FnReturnsAt}
 use Rattle.std.specs.Borrow.{Bor}
-use Rattle.monoid_laws.specs.Laws.{MonoidLaws}
-use Rattle.monoid_laws.specs.Measure.{measure_of}
+use Rattle.monoids.specs.Laws.{MonoidLaws}
+use Rattle.monoids.specs.Measure.{measure_of}
 use Rattle.weighted_tree.specs.Search.{Tells}
 use Rattle.weighted_tree.specs.SearchSteps.{IsBoundary, IsSought, IsBoundaryWithin, joined_after}
 use Rattle.weighted_tree.specs.declared.search.Search.{Search}

@@ -1,7 +1,7 @@
 -- A range of a node's items, seen from the side that it lies in: what a walk down the tree keeps.
 use Rattle.std.proofs.Common.{◌≡◌, ℕ, suc, ◌+◌, ◌-◌, ◌<◌, ◌≤◌, List, ◌∷◌, ◌++◌, sym, ap, ◌∙◌, arith, take, drop, length, length-append}
-use Rattle.monoid_laws.specs.Laws.{MonoidLaws}
-use Rattle.monoid_laws.specs.Measure.{measure_of}
+use Rattle.monoids.specs.Laws.{MonoidLaws}
+use Rattle.monoids.specs.Measure.{measure_of}
 use Rattle.weighted_tree.proofs.Joins.{join_around, around_join}
 use Rattle.weighted_tree.proofs.Ranges.{take-before, take-after, drop-before, drop-after}
 

@@ -7,8 +7,8 @@ use Rattle.std.proofs.lemmas.List.Folds.{drop_split}
 use Rattle.std.specs.List.{slice_range}
 use Rattle.std.specs.Fn.{Shared, FnReturnsAt}
 use Rattle.std.specs.Borrow.{Bor}
-use Rattle.monoid_laws.specs.Laws.{MonoidLaws}
-use Rattle.monoid_laws.specs.Measure.{measure_of}
+use Rattle.monoids.specs.Laws.{MonoidLaws}
+use Rattle.monoids.specs.Measure.{measure_of}
 use Rattle.weighted_tree.specs.Search.{Tells, IsRising, IsFalling, IsFirstPlace, IsLastPlace, FindsFirst, FindsLast}
 use Rattle.weighted_tree.specs.SearchSteps.{IsBoundary, IsSought}
 use Rattle.weighted_tree.specs.declared.search.Search.TheVariants.{Found, Open}

@@ -4,7 +4,7 @@ use Rattle.std.specs.Prelude.{slice_set, Result, Ok, Err, OnOk, OnErr}
 use Rattle.std.specs.List.{insert}
 use Rattle.std.proofs.lemmas.List.Edits.{length-insert}
 use Rattle.std.proofs.lemmas.List.{length-set}
-use Rattle.monoid_laws.specs.Measure.{measure_of}
+use Rattle.monoids.specs.Measure.{measure_of}
 use Rattle.weighted_tree.specs.Balance.{Part}
 use Rattle.weighted_tree.specs.Nodes.{node_items, node_part, IsNode, IsRoot}
 use Rattle.weighted_tree.specs.declared.subtree.Link.{Link}

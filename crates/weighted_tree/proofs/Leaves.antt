@@ -9,9 +9,9 @@ use Rattle.std.proofs.Math.Seq.{take-suc}
 use Rattle.std.proofs.lemmas.Bool.{cases_Bool}
 use Rattle.std.proofs.lemmas.List.{get_or-drop, length-drop, length-take-le, length-map, map-append, take-append-drop}
 use Rattle.std.proofs.Math.Seq.{drop-cons}
-use Rattle.monoid_laws.specs.Laws.{MonoidLaws}
-use Rattle.monoid_laws.specs.Measure.{measure_of}
-use Rattle.monoid_laws.specs.MeasureLaws.{measure_of-append}
+use Rattle.monoids.specs.Laws.{MonoidLaws}
+use Rattle.monoids.specs.Measure.{measure_of}
+use Rattle.monoids.specs.MeasureLaws.{measure_of-append}
 use Rattle.weighted_tree.specs.Reads.{overwritten}
 use Rattle.weighted_tree.specs.Search.{Tells}
 use Rattle.weighted_tree.specs.SearchSteps.{IsSought, joined_after}

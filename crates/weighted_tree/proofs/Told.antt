@@ -5,9 +5,9 @@ use Rattle.std.specs.List.{insert, remove}
 use Rattle.std.proofs.Math.Seq.{drop-cons}
 use Rattle.std.proofs.lemmas.List.{take-append-drop, length-take-le}
 use Rattle.std.proofs.lemmas.Option.{slice_get_within, get_or_from_slice_get}
-use Rattle.monoid_laws.specs.Laws.{MonoidLaws}
-use Rattle.monoid_laws.specs.Measure.{measure_of}
-use Rattle.monoid_laws.specs.MeasureLaws.{measure_of-append, measure_of-around}
+use Rattle.monoids.specs.Laws.{MonoidLaws}
+use Rattle.monoids.specs.Measure.{measure_of}
+use Rattle.monoids.specs.MeasureLaws.{measure_of-append, measure_of-around}
 use Rattle.weighted_tree.proofs.Middles.{remove-middle, set-middle}
 
 module _ {A M : Type 0} {count : M → ℕ} {unit : M} {join : M → M → M} (laws : MonoidLaws count unit join) (measured : A → M)

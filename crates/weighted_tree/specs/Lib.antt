@@ -12,5 +12,5 @@ pub mod Search
 pub mod SearchSteps
 pub mod Sides
 pub mod Tails
-pub use Rattle.monoid_laws.specs.Measure
+pub use Rattle.monoids.specs.Measure
 pub use Rattle.costs.specs.Visits

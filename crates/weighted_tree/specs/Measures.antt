@@ -1,9 +1,9 @@
 -- What a tree measures of a list, in the words of its items' traits.
 use Rattle.std.specs.Prelude.{ℕ, List, take}
 use Rattle.std.specs.List.{slice_range}
-use Rattle.monoid_laws.specs.Measure.{measure_of}
-use Rattle.monoid_laws.specs.declared.monoid.Measured as Measured
-use Rattle.monoid_laws.specs.declared.monoid.Monoid as Monoid
+use Rattle.monoids.specs.Measure.{measure_of}
+use Rattle.monoids.specs.declared.monoid.Measured as Measured
+use Rattle.monoids.specs.declared.monoid.Monoid as Monoid
 use Rattle.weighted_tree.specs.Sides.{join_from}
 use Rattle.weighted_tree.specs.declared.node.Side.{Side}
 

@@ -1,6 +1,6 @@
 -- What a link leads to.
 use Rattle.std.specs.Prelude.{◌≡◌, ℕ, ◌+◌, ◌^◌, ◌<◌, ◌≤◌, List, [], ◌∷◌, ◌++◌, length}
-use Rattle.monoid_laws.specs.Measure.{measure_of}
+use Rattle.monoids.specs.Measure.{measure_of}
 use Rattle.weighted_tree.specs.Balance.{Part, weight, IsBalanced, IsNearlyBalanced}
 use Rattle.weighted_tree.specs.declared.subtree.Link.{Link}
 use Rattle.weighted_tree.specs.declared.subtree.Link.TheVariants.{Empty, Leaf, Full}

@@ -4,8 +4,8 @@ use Rattle.std.proofs.Common.{arith, length-append}
 use Rattle.weighted_tree.specs.declared.subtree.Link.{Link}
 use Rattle.weighted_tree.specs.declared.subtree.Link.TheVariants.{Empty, Leaf, Full}
 use Rattle.weighted_tree.specs.declared.subtree.Subtree.TheDeep.{deep-Link}
-use Rattle.monoid_laws.specs.declared.monoid.Measured as Measured
-use Rattle.monoid_laws.specs.declared.monoid.Monoid as Monoid
+use Rattle.monoids.specs.declared.monoid.Measured as Measured
+use Rattle.monoids.specs.declared.monoid.Monoid as Monoid
 use Rattle.weighted_tree.specs.Nodes.{items_of}
 
 -- no side is deeper than the link has items

@@ -5,8 +5,8 @@ use Rattle.std.specs.Global.{Global}
 use Rattle.std.specs.contracts.alloc.Global as global
 use Rattle.std.specs.contracts.boxed.Box as boxed
 use Rattle.std.specs.contracts.impls.GlobalAllocator.TheImpl.{ghosts}
-use Rattle.monoid_laws.specs.declared.monoid.Measured as Measured
-use Rattle.monoid_laws.specs.declared.monoid.Monoid as Monoid
+use Rattle.monoids.specs.declared.monoid.Measured as Measured
+use Rattle.monoids.specs.declared.monoid.Monoid as Monoid
 use Rattle.weighted_tree.specs.declared.closed.Closed.{Closed}
 use Rattle.weighted_tree.specs.declared.subtree.Node.{Node}
 use Rattle.weighted_tree.specs.contracts.closed.Closed.{the_row}

@@ -8,7 +8,7 @@ ghost use Rattle.weighted_tree.specs.Sides.{other, side_of};
 use crate::node::Side;
 use crate::subtree::{Link, Node, Subtree};
 use costs::Steps;
-use monoid_laws::{Measured, Monoid};
+use monoids::{Measured, Monoid};
 use std::mem;
 use std::sync::ledger::Ledger;
 

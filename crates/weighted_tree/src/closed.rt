@@ -9,7 +9,7 @@ use crate::leaf_edit::{insert_item, put_for, remove_item};
 use crate::room::make_room;
 use crate::subtree::Node;
 use costs::{NoMemory, Steps};
-use monoid_laws::Measured;
+use monoids::Measured;
 use std::sync::ledger::Ledger;
 
 /// A node as its link holds it. No other module sees it: each way to open it is a visit, and steps the

@@ -3,7 +3,7 @@ ghost use Rattle.std.specs.Prelude.{◌≡◌, ◌+◌, ◌≤◌, length, IfOk,
 
 use crate::subtree::{Node, Subtree};
 use costs::{NoMemory, Steps};
-use monoid_laws::Measured;
+use monoids::Measured;
 use std::alloc::Global;
 use std::sync::ledger::Ledger;
 

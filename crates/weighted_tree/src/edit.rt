@@ -11,7 +11,7 @@ use crate::node::Side;
 use crate::room::room_for;
 use crate::subtree::{Link, Node, Subtree};
 use costs::{NoMemory, Steps};
-use monoid_laws::{Measured, Monoid};
+use monoids::{Measured, Monoid};
 use std::alloc::Global;
 use std::mem;
 use std::sync::ledger::Ledger;

@@ -15,7 +15,7 @@ use crate::search::{Search, passes};
 use crate::subtree::{Node, Subtree};
 use crate::walk::show;
 use costs::{NoMemory, Steps};
-use monoid_laws::{Measured, Monoid};
+use monoids::{Measured, Monoid};
 use std::alloc::Global;
 use std::sync::ledger::Ledger;
 

@@ -7,7 +7,7 @@ ghost use Rattle.weighted_tree.specs.Nodes.{full};
 use crate::leaf::measure_between;
 use crate::room::make_room;
 use costs::NoMemory;
-use monoid_laws::{Measured, Monoid};
+use monoids::{Measured, Monoid};
 
 /// Puts one more item in at a place.
 pub(crate) fn insert_item<T: Measured>(

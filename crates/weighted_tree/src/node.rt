@@ -6,7 +6,7 @@ ghost use Rattle.weighted_tree.specs.Nodes.{node_items, node_count, HasBalance, 
 ghost use Rattle.weighted_tree.specs.Sides.{other, side_of, with_side, join_from, IsOpened};
 
 use crate::subtree::{Node, Subtree};
-use monoid_laws::{Measured, Monoid};
+use monoids::{Measured, Monoid};
 use std::mem;
 
 /// One of the two sides of a node.

@@ -9,7 +9,7 @@ use crate::leaf::measure_between;
 use crate::node::Side;
 use crate::subtree::Subtree;
 use costs::Steps;
-use monoid_laws::{Measured, Monoid};
+use monoids::{Measured, Monoid};
 use std::sync::ledger::Ledger;
 
 impl<T: Measured> Subtree<T> {

@@ -12,7 +12,7 @@ use crate::leaf::{boundary_in, partition_in};
 use crate::node::Side;
 use crate::subtree::Subtree;
 use costs::Steps;
-use monoid_laws::{Measured, Monoid};
+use monoids::{Measured, Monoid};
 use std::sync::ledger::Ledger;
 
 /// How far a search came.

@@ -9,7 +9,7 @@ use crate::closed::{Closed, ClosedItems};
 use crate::leaf::measure_between;
 use crate::node::Side;
 use costs::Steps;
-use monoid_laws::{Measured, Monoid};
+use monoids::{Measured, Monoid};
 use std::marker::Model;
 use std::mem;
 use std::sync::ledger::Ledger;

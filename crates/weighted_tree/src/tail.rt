@@ -6,7 +6,7 @@ ghost use Rattle.weighted_tree.specs.Balance.{no_part};
 use crate::leaf::shift_in;
 use crate::subtree::{Node, Subtree};
 use costs::{NoMemory, Steps};
-use monoid_laws::Measured;
+use monoids::Measured;
 use std::alloc::Global;
 use std::marker::Model;
 use std::sync::ledger::Ledger;

@@ -14,7 +14,7 @@ use crate::search::{Search, boundary_in_both, passes};
 use crate::subtree::Subtree;
 use crate::tail::Tail;
 use costs::{NoMemory, Steps};
-use monoid_laws::{Measured, Monoid};
+use monoids::{Measured, Monoid};
 use std::alloc::Global;
 use std::marker::Model;
 use std::sync::ledger::Ledger;

@@ -9,7 +9,7 @@ ghost use Rattle.weighted_tree.specs.Search.{FindsFirst, FindsPartition};
 
 use crate::tree::Tree;
 use costs::{NoMemory, Steps};
-use monoid_laws::Measured;
+use monoids::Measured;
 use std::marker::Brand;
 use std::sync::ledger::{Blank, Ledger};
 

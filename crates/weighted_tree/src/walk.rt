@@ -7,7 +7,7 @@ ghost use Rattle.weighted_tree.specs.Reads.{Writes, VisitsOfRead};
 use crate::leaf::read_in;
 use crate::subtree::Subtree;
 use costs::Steps;
-use monoid_laws::Measured;
+use monoids::Measured;
 use std::sync::ledger::Ledger;
 
 impl<T: Measured> Subtree<T> {

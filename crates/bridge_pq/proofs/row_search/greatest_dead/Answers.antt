@@ -1,7 +1,7 @@
 use Rattle.std.proofs.Common.{◌≡◌, ◌+◌, ◌<◌, length, ap, ◌∙◌, subst, arith, Fits, w32, rules, Some, None}
 use Rattle.std.specs.List.{slice_range}
 use Rattle.std.proofs.lemmas.List.{length-map}
-use Rattle.measures.specs.Extreme.{NoElement, IsFirstGreatest}
+use Rattle.monoid_laws.specs.Extreme.{NoElement, IsFirstGreatest}
 use Rattle.bridge_pq.specs.MarkedRows.{rows_of}
 use Rattle.bridge_pq.specs.EntryOrder.{entry_order}
 use Rattle.bridge_pq.proofs.RowMeasures.{dead_of, dead-part}

@@ -1,7 +1,7 @@
 use Rattle.std.proofs.Common.{◌≡◌, pos, map, take, ap, ◌∙◌, length, rules}
 use Rattle.std.specs.List.{slice_range}
 use Rattle.std.specs.Int.Signed.{le_z}
-use Rattle.measures.specs.Summed.{sum_of, no_sum, joined_sum, one_sum}
+use Rattle.monoid_laws.specs.Summed.{sum_of, no_sum, joined_sum, one_sum}
 use Rattle.monoid_laws.specs.Measure.{measure_of}
 use Rattle.tree_tests.proofs.PrefixSums.{sum-prefix, prefix-rises}
 use Rattle.tree_tests.proofs.weighted.first_reaching.Goals as goal

@@ -1,6 +1,6 @@
 use Rattle.std.proofs.Common.{ap, ◌∙◌, arith}
 use Rattle.std.specs.List.{insert}
-use Rattle.monoid_laws.specs.MeasureLaws.{items-measure_of}
+use Rattle.monoids.specs.MeasureLaws.{items-measure_of}
 use Rattle.weighted_tree.proofs.Told.{told_with}
 use Rattle.weighted_tree.proofs.leaf_edit.insert_item.Goals as goal
 

@@ -1,6 +1,6 @@
 use Rattle.std.proofs.Common.{ap, ◌∙◌, refl, arith, length}
 use Rattle.std.proofs.lemmas.Option.{slice_get_read}
-use Rattle.monoid_laws.specs.MeasureLaws.{items-measure_of}
+use Rattle.monoids.specs.MeasureLaws.{items-measure_of}
 use Rattle.weighted_tree.proofs.Told.{told_exchanged}
 use Rattle.weighted_tree.proofs.leaf_edit.put_for.Goals as goal
 

@@ -2,8 +2,8 @@ use Rattle.std.proofs.Common.{ap, sym, ◌∙◌, subst, rules}
 use Rattle.std.specs.Cmp.{back_total}
 use Rattle.std.specs.Option.{option_map}
 use Rattle.std.specs.Ordering.{flip_args}
-use Rattle.measures.specs.Extreme.{IsGreatestOffset}
-use Rattle.measures.specs.ExtremeLaws.{offset-extreme_of}
+use Rattle.monoid_laws.specs.Extreme.{IsGreatestOffset}
+use Rattle.monoid_laws.specs.ExtremeLaws.{offset-extreme_of}
 use Rattle.bridge_pq.specs.EntryOrder.{entry_order, entry_total}
 use Rattle.bridge_pq.proofs.row_measure.RowMeasure.alive_offset.Goals as goal
 

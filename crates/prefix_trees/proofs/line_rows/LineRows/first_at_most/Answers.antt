@@ -1,8 +1,8 @@
 use Rattle.std.proofs.Common.{◌≡◌, ◌+ℤ◌, ◌∙◌, length, ap, sym, rules}
 use Rattle.std.specs.List.{slice_range}
 use Rattle.std.specs.Int.Signed.{le_z}
-use Rattle.measures.specs.PrefixSumLaws.{reaches}
-use Rattle.measures.specs.Walk.{walk_of, lowest_of}
+use Rattle.monoid_laws.specs.PrefixSumLaws.{reaches}
+use Rattle.monoid_laws.specs.Walk.{walk_of, lowest_of}
 use Rattle.prefix_trees.specs.Growth.{grown, growths, sign_of}
 use Rattle.prefix_trees.proofs.MeasuredRows.{range-whole}
 use Rattle.prefix_trees.proofs.FoundPlaces.{finds-none}

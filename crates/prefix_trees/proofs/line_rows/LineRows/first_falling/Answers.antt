@@ -1,8 +1,8 @@
 use Rattle.std.proofs.Common.{◌≡◌, ◌+ℤ◌, ◌∙◌, ap, sym, rules}
 use Rattle.std.specs.List.{slice_range}
 use Rattle.std.specs.Int.Signed.{le_z}
-use Rattle.measures.specs.PrefixSumLaws.{reaches, reaches-rises}
-use Rattle.measures.specs.Walk.{lowest_of}
+use Rattle.monoid_laws.specs.PrefixSumLaws.{reaches, reaches-rises}
+use Rattle.monoid_laws.specs.Walk.{lowest_of}
 use Rattle.prefix_trees.specs.Growth.{grown, growths, sign_of}
 use Rattle.prefix_trees.proofs.MeasuredRows.{walks_of, range-whole}
 use Rattle.prefix_trees.proofs.FoundPlaces.{finds-first}

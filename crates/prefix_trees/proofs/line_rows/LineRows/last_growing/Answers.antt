@@ -1,8 +1,8 @@
 use Rattle.std.proofs.Common.{◌≡◌, ◌-ℤ◌, ◌∙◌, rules}
 use Rattle.std.specs.List.{slice_range}
 use Rattle.std.specs.Int.Signed.{le_z}
-use Rattle.measures.specs.SuffixSumLaws.{keeps, keeps-falls}
-use Rattle.measures.specs.Walk.{height_of}
+use Rattle.monoid_laws.specs.SuffixSumLaws.{keeps, keeps-falls}
+use Rattle.monoid_laws.specs.Walk.{height_of}
 use Rattle.prefix_trees.specs.Growth.{grown, growths, growth_at}
 use Rattle.prefix_trees.specs.Walks.{walk_at}
 use Rattle.prefix_trees.proofs.MeasuredRows.{walks_of}

@@ -1,9 +1,9 @@
 use Rattle.std.proofs.Common.{◌≡◌, ◌-ℤ◌, ◌||◌, ◌∙◌, ap, rules}
 use Rattle.std.specs.List.{slice_range}
 use Rattle.std.specs.Int.Signed.{le_z}
-use Rattle.measures.specs.Walk.{height_of}
+use Rattle.monoid_laws.specs.Walk.{height_of}
 use Rattle.prefix_trees.specs.declared.growth.End.TheVariants.{Left, Right}
-use Rattle.measures.specs.SuffixSumLaws.{keeps}
+use Rattle.monoid_laws.specs.SuffixSumLaws.{keeps}
 use Rattle.prefix_trees.specs.Growth.{grown, growths, left_growth, right_growth}
 use Rattle.prefix_trees.specs.Walks.{walk_at}
 use Rattle.prefix_trees.proofs.MeasuredRows.{walks_of}

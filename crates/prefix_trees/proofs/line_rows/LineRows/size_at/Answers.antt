@@ -1,5 +1,5 @@
 use Rattle.std.proofs.Common.{◌≡◌, ap, ◌∙◌, rules}
-use Rattle.measures.specs.Walk.{end_of}
+use Rattle.monoid_laws.specs.Walk.{end_of}
 use Rattle.prefix_trees.specs.Growth.{grown, sign_of}
 use Rattle.prefix_trees.proofs.MeasuredRows.{size-is}
 use Rattle.prefix_trees.proofs.line_rows.LineRows.size_at.Goals as goal

@@ -1,7 +1,7 @@
 use Rattle.std.proofs.Common.{◌≡◌, pos, ◌∙◌, ap, rules}
 use Rattle.std.specs.List.{slice_range}
 use Rattle.std.specs.Int.Signed.{lt_z}
-use Rattle.measures.specs.Walk.{end_of}
+use Rattle.monoid_laws.specs.Walk.{end_of}
 use Rattle.prefix_trees.specs.SignWalks.{has_more_marks}
 use Rattle.prefix_trees.proofs.MeasuredSigns.{walks_of, marks-is}
 use Rattle.prefix_trees.proofs.FoundSigns.{more-rises}

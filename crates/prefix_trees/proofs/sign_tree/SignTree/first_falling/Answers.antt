@@ -1,11 +1,11 @@
 use Rattle.std.proofs.Common.{◌≡◌, ◌+ℤ◌, ◌∙◌, ap, sym, rules}
 use Rattle.std.specs.List.{slice_range}
 use Rattle.std.specs.Int.Signed.{le_z}
-use Rattle.measures.specs.Walk.{lowest_of}
+use Rattle.monoid_laws.specs.Walk.{lowest_of}
 use Rattle.prefix_trees.specs.SignPrefixes.{signs_of, prefix}
 use Rattle.prefix_trees.specs.SignWalks.{falls_to}
 use Rattle.prefix_trees.proofs.MeasuredSigns.{walks_of, range-walk}
-use Rattle.measures.specs.PrefixSumLaws.{reaches-rises}
+use Rattle.monoid_laws.specs.PrefixSumLaws.{reaches-rises}
 use Rattle.prefix_trees.proofs.sign_tree.SignTree.first_falling.Goals as goal
 
 pub returns-clause-first : goal.returns-clause-first

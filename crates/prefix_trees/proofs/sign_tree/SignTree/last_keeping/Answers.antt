@@ -1,8 +1,8 @@
 use Rattle.std.proofs.Common.{◌≡◌, ◌-ℤ◌, ◌∙◌, ap, sym, rules}
 use Rattle.std.specs.List.{slice_range}
 use Rattle.std.specs.Int.Signed.{le_z}
-use Rattle.measures.specs.SuffixSumLaws.{keeps-falls}
-use Rattle.measures.specs.Walk.{height_of}
+use Rattle.monoid_laws.specs.SuffixSumLaws.{keeps-falls}
+use Rattle.monoid_laws.specs.Walk.{height_of}
 use Rattle.prefix_trees.specs.SignPrefixes.{signs_of, prefix}
 use Rattle.prefix_trees.specs.SignWalks.{keeps_at}
 use Rattle.prefix_trees.proofs.MeasuredSigns.{walks_of, range-walk}

@@ -1,6 +1,6 @@
 use Rattle.std.proofs.Common.{◌≡◌, ap, ◌∙◌, rules}
 use Rattle.std.proofs.lemmas.Int.{to_z-of_z}
-use Rattle.measures.specs.Walk.{end_of}
+use Rattle.monoid_laws.specs.Walk.{end_of}
 use Rattle.prefix_trees.specs.SignPrefixes.{prefix}
 use Rattle.prefix_trees.proofs.MeasuredSigns.{prefix-is}
 use Rattle.prefix_trees.proofs.sign_tree.SignTree.prefix.Goals as goal

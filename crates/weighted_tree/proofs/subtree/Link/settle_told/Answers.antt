@@ -1,6 +1,6 @@
 use Rattle.std.proofs.Common.{◌≡◌, ap, arith, subst, length, ◌∙◌}
 use Rattle.std.specs.Prelude.{IfSome}
-use Rattle.monoid_laws.specs.MeasureLaws.{items-measure_of}
+use Rattle.monoids.specs.MeasureLaws.{items-measure_of}
 use Rattle.weighted_tree.specs.Measures.{measure_in}
 use Rattle.weighted_tree.specs.Nodes.{node_items, items_of, nodes_of, HasChangedSide, IsUnsettled}
 use Rattle.weighted_tree.proofs.subtree.Link.settle_told.Goals as goal

@@ -1,4 +1,4 @@
-use Rattle.monoid_laws.specs.MeasureLaws.{measure_of-around}
+use Rattle.monoids.specs.MeasureLaws.{measure_of-around}
 use Rattle.weighted_tree.proofs.subtree.Node.measure.Goals as goal
 
 pub returns : goal.returns

@@ -1,6 +1,6 @@
 use Rattle.std.proofs.Common.{rules, ◌≡◌, ◌+◌, ◌-◌, refl, arith, ◌∙◌, ◌∷◌, ◌++◌, ap, sym, subst, length}
 use Rattle.std.specs.List.{insert}
-use Rattle.monoid_laws.specs.MeasureLaws.{items-measure_of}
+use Rattle.monoids.specs.MeasureLaws.{items-measure_of}
 use Rattle.weighted_tree.specs.Balance.{IsUpToOneMore}
 use Rattle.weighted_tree.specs.Nodes.{nodes_of, part_of, node_items, node_count, IsSound}
 use Rattle.weighted_tree.proofs.InPlace.{root_of}

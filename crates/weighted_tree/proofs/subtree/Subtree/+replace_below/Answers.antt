@@ -1,6 +1,6 @@
 use Rattle.std.proofs.Common.{◌≡◌, ◌-◌, arith, ◌∙◌, ◌∷◌, sym, ap, subst, length}
 use Rattle.std.specs.Prelude.{slice_set, slice_get, Some}
-use Rattle.monoid_laws.specs.MeasureLaws.{items-measure_of}
+use Rattle.monoids.specs.MeasureLaws.{items-measure_of}
 use Rattle.weighted_tree.specs.Nodes.{node_items, part_of, IsSound}
 use Rattle.weighted_tree.proofs.InPlace.{IsSetAt, set_left, set_right, set_here, sound_with, root_of}
 use Rattle.weighted_tree.proofs.Levels.{level_left, level_right, level_end}

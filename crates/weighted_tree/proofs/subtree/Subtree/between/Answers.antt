@@ -1,6 +1,6 @@
 use Rattle.std.proofs.Common.{◌≡◌, ◌-◌, ap, sym, ◌∙◌, arith, take, drop, length}
 use Rattle.std.specs.List.{slice_range}
-use Rattle.monoid_laws.specs.MeasureLaws.{measure_of-around}
+use Rattle.monoids.specs.MeasureLaws.{measure_of-around}
 use Rattle.weighted_tree.proofs.Levels.{level_left, level_right, both_sides}
 use Rattle.weighted_tree.proofs.Descents.{sizes_of}
 use Rattle.weighted_tree.proofs.Ranges.{range-before, range-after, range-around}

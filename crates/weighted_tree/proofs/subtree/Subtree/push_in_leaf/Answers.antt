@@ -1,5 +1,5 @@
 use Rattle.std.proofs.Common.{ap, sym, ◌∙◌, subst, arith, length, length-append, ◌∷◌, []}
-use Rattle.monoid_laws.specs.MeasureLaws.{items-measure_of}
+use Rattle.monoids.specs.MeasureLaws.{items-measure_of}
 use Rattle.weighted_tree.specs.Measures.{measure_in}
 use Rattle.weighted_tree.specs.Nodes.{part_of, IsSound}
 use Rattle.weighted_tree.proofs.Leaves.{measure_next}

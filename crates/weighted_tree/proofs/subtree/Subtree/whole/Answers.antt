@@ -1,5 +1,5 @@
 use Rattle.std.proofs.Common.{ap, sym, ◌∙◌, subst, length}
-use Rattle.monoid_laws.specs.MeasureLaws.{items-measure_of}
+use Rattle.monoids.specs.MeasureLaws.{items-measure_of}
 use Rattle.weighted_tree.specs.Nodes.{part_of, node_items, IsSound}
 use Rattle.weighted_tree.proofs.subtree.Subtree.whole.Goals as goal
 

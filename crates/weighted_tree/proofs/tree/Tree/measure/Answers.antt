@@ -1,7 +1,7 @@
 use Rattle.std.proofs.Common.{◌-◌, ap, sym, ◌∙◌, arith, take, drop, length, length-append}
 use Rattle.std.specs.List.{slice_range}
 use Rattle.std.proofs.lemmas.List.{length-drop, length-take-le}
-use Rattle.monoid_laws.specs.MeasureLaws.{measure_of-append, items-measure_of}
+use Rattle.monoids.specs.MeasureLaws.{measure_of-append, items-measure_of}
 use Rattle.weighted_tree.specs.Balance.{weight}
 use Rattle.weighted_tree.specs.Measures.{measure_in}
 use Rattle.weighted_tree.proofs.Appended.{range_in_tail, range_in_both}

@@ -1,6 +1,0 @@
-use Rattle.std.proofs.Common.{ap, ◌∙◌, rules}
-use Rattle.measures.specs.BothLaws.{second-both_of}
-use Rattle.measures.proofs.both.Both.second.Goals as goal
-
-pub returns-clause-list : goal.returns-clause-list
-returns-clause-list g c pairs is = (search rules) ∙ ap (λ p. p.1) (c.self.view_is ∙ is) ∙ second-both_of _ _ _ _ pairs

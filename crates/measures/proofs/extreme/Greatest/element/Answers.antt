@@ -1,9 +1,0 @@
-use Rattle.std.proofs.Common.{ap, sym, ◌∙◌, subst, rules}
-use Rattle.std.specs.Option.{option_map}
-use Rattle.measures.specs.Extreme.{IsGreatestElement}
-use Rattle.measures.specs.ExtremeLaws.{element-extreme_of}
-use Rattle.measures.proofs.extreme.Greatest.element.Goals as goal
-
-pub returns-clause-list : goal.returns-clause-list
-returns-clause-list g c items is =
-    subst (IsGreatestElement g.E.Ord.cmp items) (ap (λ v. option_map (λ p. p.0) v.first) (sym (c.self.view_is ∙ is)) ∙ (search rules)) (element-extreme_of g.met.E.Ord.total items)
