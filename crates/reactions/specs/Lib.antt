@@ -6,4 +6,5 @@ pub mod Reported
 pub mod TimelineEffects
 pub mod Reaction
 pub mod ReactionLaws
+pub mod RefusalLaws
 pub mod Answers

@@ -1,9 +1,6 @@
 pub use Rattle.retro_run.specs.Output
 pub use Rattle.retro_run.specs.Status
-pub mod Accepted
-pub mod SavedText
 pub mod Forms
 pub mod Promise
 pub mod Program
 pub mod FollowedProgram
-pub mod Mirrored

@@ -13,14 +13,15 @@
 //!
 //! - `program`: the top calls `run`, `run_followed` and `run_sending`, of which the first two run over any sink by the loops that send.
 //! - `form`, `words`: the words of the command line, and what they ask for. How a run ends is a `Status` of `retro_run`.
-//! - `laws`: what a script answers is accepted by the judge, its events leave the present, and who is left has heard them all.
+//! - `laws`: those of `script_laws`, handed on: what a script answers is accepted by the judge, its events leave the present, who is
+//!   left has heard them all, and a timeline's own lines are answered as they would be alone.
 #![tactic(auto)]
 
 mod form;
-pub mod laws;
 mod program;
 mod words;
 
 pub use program::{run, run_followed, run_sending};
 pub use retro_run::Status;
+pub use script_laws as laws;
 pub use words::Words;

@@ -1,2 +1,3 @@
-pub mod OwnLines
-pub mod FusedLines
+pub use Rattle.reactions.specs.Bench
+pub use Rattle.reactions.specs.Reaction
+pub use Rattle.timelines.specs.Kept

@@ -6,12 +6,10 @@
 //! - `Bench::line` does what a line asks for and gives the lines that answer it, by `specs/Reaction.antt` of `reactions`; `Bench::end` does
 //!   so at the end of the input. `line_into` and `end_into`, calls of `AnyBench` of `reactions`, write these lines into a text of the
 //!   caller, who may use it again for the next one.
-//! - `bench`: the type and its calls. `laws`: a timeline's own lines are answered as they would be alone, and `pqf` for `pq` changes
-//!   no answer.
+//! - `bench`: the type and its calls.
 #![tactic(auto)]
 
 mod bench;
-pub mod laws;
 
 pub use bench::{Bench, Reply};
 pub use reactions::MAX_TIMELINES;

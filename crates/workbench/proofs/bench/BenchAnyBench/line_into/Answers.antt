@@ -1,5 +1,5 @@
 use Rattle.std.proofs.Common.{rules}
-use Rattle.workbench.proofs.Refusals.{kept_after}
+use Rattle.reactions.specs.RefusalLaws.{kept_after}
 use Rattle.workbench.proofs.bench.BenchAnyBench.line_into.Goals as goal
 use Rattle.workbench.proofs.bench.BenchAnyBench.line_into.Goals.{then-is_none, else-is_none+then-not-long+then-is_end, else-is_none+else-not-long}
 

@@ -1,5 +1,0 @@
-use Rattle.retro_cli.proofs.SavedText.{text_reads_back}
-use Rattle.retro_cli.proofs.laws.saved_text_reads_back.Goals as goal
-
-pub returns : goal.returns
-returns c = text_reads_back c.saved_reads_back.ensures

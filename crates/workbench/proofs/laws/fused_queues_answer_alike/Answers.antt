@@ -1,5 +1,0 @@
-use Rattle.workbench.proofs.FusedLines.{fused_answers_alike}
-use Rattle.workbench.proofs.laws.fused_queues_answer_alike.Goals as goal
-
-pub returns : goal.returns
-returns c = fused_answers_alike

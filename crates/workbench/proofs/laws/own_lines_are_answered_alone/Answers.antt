@@ -1,5 +1,0 @@
-use Rattle.workbench.proofs.OwnLines.{own_lines_alone}
-use Rattle.workbench.proofs.laws.own_lines_are_answered_alone.Goals as goal
-
-pub returns : goal.returns
-returns c = own_lines_alone
