@@ -15,7 +15,7 @@ use timeline_file::{BlockError, BlockReader};
 
 /// A block that is being read.
 #[derive(Drop)]
-pub struct OpenBlock {
+pub(crate) struct OpenBlock {
     name: Name,
     reader: BlockReader,
 }
@@ -34,7 +34,13 @@ impl Model for OpenBlock {
 
 impl OpenBlock {
     /// A block of which nothing is read but its header.
-    pub fn new(alloc: Global, name: Name, kind: Kind, next: u32, rows: Option<u32>) -> OpenBlock
+    pub(crate) fn new(
+        alloc: Global,
+        name: Name,
+        kind: Kind,
+        next: u32,
+        rows: Option<u32>,
+    ) -> OpenBlock
         requires least { 1 ≤ next }
         requires most { next ≤ next_limit }
         ensures { result ≡ record { name = name; block = begun kind next rows } }
@@ -53,7 +59,7 @@ impl OpenBlock {
     }
 
     /// Takes a line that is not the end of the block. After `NoMemory` all is as before.
-    pub fn take(&mut self, line: &[u8], long: bool) -> Result<(), NoMemory>
+    pub(crate) fn take(&mut self, line: &[u8], long: bool) -> Result<(), NoMemory>
         requires within { length line.now ≤ longest_line }
         requires full { IsTrue long → length line.now ≡ longest_line }
         ensures ok { OnOk result (self.new ≡ with_line self.old line.now long) }

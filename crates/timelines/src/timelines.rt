@@ -23,7 +23,7 @@ use timeline_undo::Session;
 
 /// The timelines that a script has made, in the order in which it made them.
 #[derive(Drop)]
-pub struct Timelines<R: AnyStructure> {
+pub(crate) struct Timelines<R: AnyStructure> {
     alloc: Global,
     timelines: Vec<NamedTimeline<R>>,
 }
@@ -45,7 +45,7 @@ impl<R: AnyStructure> Timelines<R> {
     ghost use Rattle.reactions.specs.Bench.{present_size, row_count};
 
     /// No timelines.
-    pub fn new(alloc: Global) -> Timelines<R>
+    pub(crate) fn new(alloc: Global) -> Timelines<R>
         ensures { result ≡ [] }
     {
         Timelines {
@@ -56,7 +56,7 @@ impl<R: AnyStructure> Timelines<R> {
 
     /// Does what a command asks for, or refuses a line that has none: itself what is about no timeline, and else by the timeline of the
     /// name. Writes the answer, and gives whether it is a refusal. After a refusal all is as before.
-    pub fn obey(
+    pub(crate) fn obey(
         &mut self,
         line: &Result<Command, LineError>,
         answer: &mut Text,
@@ -131,7 +131,7 @@ impl<R: AnyStructure> Timelines<R> {
 
     /// Closes a block: its rows become a timeline, where its name is free, there is room for one more, and nothing is
     /// wrong with it. After a refusal and after `NoMemory` all is as before.
-    pub fn close(&mut self, unclosed: OpenBlock, ended: bool) -> Result<Outcome, NoMemory>
+    pub(crate) fn close(&mut self, unclosed: OpenBlock, ended: bool) -> Result<Outcome, NoMemory>
         ensures ok { IfOk result (λ outcome. closes self.old unclosed ended ≡ record { timelines = self.new; outcome = outcome }) }
         ensures err { OnErr result (self.new ≡ self.old) }
         ensures memory { OnErr result (is_refusal (closes self.old unclosed ended).outcome ≡ false) }
@@ -163,7 +163,7 @@ impl<R: AnyStructure> Timelines<R> {
     }
 
     /// The session of the timeline of this name.
-    pub fn session(&self, name: &Name) -> Option<&Session<R>>
+    pub(crate) fn session(&self, name: &Name) -> Option<&Session<R>>
         ensures { MatchOption result (timeline_of name.now self.now ≡ None)
             (λ session. (timeline_of name.now self.now ≡ Some (named name.now session.now)) × (session.now.spent ≡ false)) }
     {
@@ -174,7 +174,7 @@ impl<R: AnyStructure> Timelines<R> {
     }
 
     /// How many rows the timeline of this name has.
-    pub fn rows_of(&self, name: &Name) -> Option<u32>
+    pub(crate) fn rows_of(&self, name: &Name) -> Option<u32>
         ensures { result ≡ option_map row_count (timeline_of name.now self.now) }
     {
         match self.session(name) {
@@ -184,7 +184,7 @@ impl<R: AnyStructure> Timelines<R> {
     }
 
     /// How many items, pairs or entries it holds at present.
-    pub fn size_of(&self, name: &Name) -> Option<u32>
+    pub(crate) fn size_of(&self, name: &Name) -> Option<u32>
         ensures { result ≡ option_map present_size (timeline_of name.now self.now) }
     {
         match self.session(name) {

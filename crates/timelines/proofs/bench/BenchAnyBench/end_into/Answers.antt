@@ -1,7 +1,7 @@
 use Rattle.std.proofs.Common.{ap, false}
 use Rattle.reactions.specs.Bench.{BenchState}
 use Rattle.reactions.specs.RefusalLaws.{kept_after_end}
-use Rattle.workbench.proofs.bench.BenchAnyBench.end_into.Goals as goal
+use Rattle.timelines.proofs.bench.BenchAnyBench.end_into.Goals as goal
 
 pub returns-clause-keeps : goal.returns-clause-keeps
 returns-clause-keeps c =

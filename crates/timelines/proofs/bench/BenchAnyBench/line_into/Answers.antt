@@ -1,7 +1,7 @@
 use Rattle.std.proofs.Common.{rules}
 use Rattle.reactions.specs.RefusalLaws.{kept_after}
-use Rattle.workbench.proofs.bench.BenchAnyBench.line_into.Goals as goal
-use Rattle.workbench.proofs.bench.BenchAnyBench.line_into.Goals.{then-is_none, else-is_none+then-not-long+then-is_end, else-is_none+else-not-long}
+use Rattle.timelines.proofs.bench.BenchAnyBench.line_into.Goals as goal
+use Rattle.timelines.proofs.bench.BenchAnyBench.line_into.Goals.{then-is_none, else-is_none+then-not-long+then-is_end, else-is_none+else-not-long}
 
 pub returns-clause-reacts : goal.returns-clause-reacts
 returns-clause-reacts c = elim c.if-is_none.branch [
