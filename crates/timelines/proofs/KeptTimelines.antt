@@ -5,6 +5,7 @@ use Rattle.std.specs.Prelude.{slice_get, IfSome, ◌||◌}
 use Rattle.std.proofs.lemmas.List.{get_or-map, map-set, length-map}
 use Rattle.std.proofs.lemmas.List.Quantifiers.{position-Some}
 use Rattle.std.proofs.lemmas.Iterator.Adapters.{position_from-zero}
+use Rattle.retro_base.specs.Facts.{some_is_not_none}
 use Rattle.timeline_undo.specs.Session.{SessionState}
 use Rattle.reactions.specs.Bench.{NamedTimeline, has_timeline, is_named, timeline_of}
 use Rattle.timelines.specs.Kept.{KeptTimeline, IsUnspent, is_kept_as, kept_over, named, shown}
@@ -21,6 +22,10 @@ seen_of kept = kept.timeline
 found_below : (name : List ℕ) (kept : List KeptTimeline) (index : ℕ) (there : KeptTimeline) → Some index ≡ position (is_named name) (shown kept) → index < length kept
 found_below name kept index there at =
     omega (arith, (position-Some (is_named name) (shown kept) index there.timeline (sym at)).0, length-map kept seen_of)
+
+pub found_within : (name : List ℕ) (kept : List KeptTimeline) (index : ℕ) → Some index ≡ position (is_named name) (shown kept) → index < length kept
+found_within name [] index at = absurd (some_is_not_none at)
+found_within name (k ∷ kept) index at = found_below name (k ∷ kept) index k at
 
 -- the one that stands there, as it is seen
 seen_there : (kept : List KeptTimeline) (index : ℕ) (there : KeptTimeline) → index < length kept → there ≡ get_or kept index there

@@ -9,8 +9,8 @@ ghost use Rattle.timeline_file.specs.Block.{finished};
 ghost use Rattle.reactions.specs.Bench.{has_timeline, is_named, size_of, timeline_of};
 ghost use Rattle.timelines.specs.Kept.{IsUnspent, is_kept_as, named};
 ghost use Rattle.reactions.specs.Outcome.{is_refusal};
-ghost use Rattle.reactions.specs.Reaction.{closes, loads, obeys, of_block, starts};
-ghost use Rattle.timelines.specs.AnsweredLine.{told};
+ghost use Rattle.reactions.specs.Reaction.{closes, loads, obeys, of_block, on_named, starts};
+ghost use Rattle.timelines.specs.AnsweredLine.{performs, told};
 
 use crate::named_timeline::NamedTimeline;
 use crate::open_block::OpenBlock;
@@ -75,14 +75,7 @@ impl<R: AnyStructure> Timelines<R> {
                 | Command::Ask { name, .. }
                 | Command::Undo { name }
                 | Command::Redo { name }
-                | Command::Save { name } => match self.index_of(name) {
-                    Some(index) => {
-                        let refused = self.timelines[index].perform(command, answer);
-                        let_go_if_spent(&mut self.timelines, index);
-                        refused
-                    }
-                    None => tell_refusal(Refusal::NoTimeline { name: *name }, answer),
-                },
+                | Command::Save { name } => self.perform(name, command, answer),
                 Command::New { name, kind, fused } => self.start_into(*name, *kind, *fused, answer),
                 Command::Mute { index } => tell_refusal(
                     Refusal::NoFollower { number: *index },
@@ -92,6 +85,26 @@ impl<R: AnyStructure> Timelines<R> {
             },
             Err(LineError::Long) => tell_refusal(Refusal::Long, answer),
             Err(LineError::Syntax) => tell_refusal(Refusal::Syntax, answer),
+        }
+    }
+
+    /// Does what a command asks of the timeline of this name, and writes the answer.
+    fn perform(
+        &mut self,
+        name: &Name,
+        command: &Command,
+        answer: &mut Text,
+    ) -> Result<bool, NoMemory>
+        requires empty { answer.old ≡ [] }
+        ensures { IfOk result (λ refused. told (on_named name.now (λ timeline. performs timeline command.now) self.old) ≡ record { timelines = self.new; answer = answer.new; refused = refused }) }
+    {
+        match self.index_of(name) {
+            Some(index) => {
+                let refused = self.timelines[index].perform(command, answer);
+                let_go_if_spent(&mut self.timelines, index);
+                refused
+            }
+            None => tell_refusal(Refusal::NoTimeline { name: *name }, answer),
         }
     }
 

@@ -8,11 +8,6 @@ use Rattle.script_grammar.specs.declared.command.Spot.{Spot}
 use Rattle.reactions.specs.Bench.{NamedTimeline}
 use Rattle.reactions.specs.Reaction.{obeys, on_named}
 use Rattle.timelines.specs.AnsweredLine.{performs}
-use Rattle.reactions.specs.declared.outcome.Outcome.TheVariants.{Refused}
-use Rattle.reactions.specs.declared.outcome.Refusal.TheVariants as refusals
-use Rattle.timelines.proofs.AnsweredLine.{told_by}
-use Rattle.timelines.proofs.KeptTimelines.{kept_told, unspent_others}
-use Rattle.timelines.proofs.Named.{on_named_nowhere}
 use Rattle.timelines.proofs.timelines.Timelines.obey.Goals as goal
 
 -- a command about the timeline of this name is performed by it
@@ -31,20 +26,6 @@ by_name timelines command name (inr (inr (inr (inr (inr (inr (inl is))))))) = rw
 by_name timelines command name (inr (inr (inr (inr (inr (inr (inr (inl is)))))))) = rw is refl
 by_name timelines command name (inr (inr (inr (inr (inr (inr (inr (inr is)))))))) = rw is refl
 
-pub let_go_if_spent-requires-clause-others : goal.let_go_if_spent-requires-clause-others
-let_go_if_spent-requires-clause-others g c = unspent_others c.self.inside.timelines.items c.in-Some.index c.perform-refused.new.self c.self.invariant
-
-pub returns-in-Some : goal.returns-in-Some
-returns-in-Some g c =
-    rw (c.in-Ok.is, by_name c.args.self.now c.in-Ok.command c.in-Insert.name c.in-Insert.is, ← c.self.view_is)
-    (kept_told c.perform-refused.result c.in-Insert.name (λ timeline. performs timeline c.in-Ok.command) c.self.inside.timelines.items c.let_go_if_spent.new.timelines.items c.in-Some.index
-    c.index_mut.result.now c.perform-refused.new.self c.args.answer.now c.perform-refused.new.answer c.requires.empty
-    (rw (← c.self.view_is) at c.in-Some.ensures) c.index_mut.ensures.value c.perform-refused.ensures.told c.perform-refused.ensures.unspent c.let_go_if_spent.ensures.same)
-
-pub returns-in-None : goal.returns-in-None
-returns-in-None g c =
-    rw (c.in-Ok.is, by_name c.args.self.now c.in-Ok.command c.in-Insert.name c.in-Insert.is)
-    (told_by c.tell_refusal-in-None.result (on_named c.in-Insert.name (λ timeline. performs timeline c.in-Ok.command) c.args.self.now) c.args.self.now
-    (Refused (refusals.NoTimeline c.in-Insert.name)) c.tell_refusal-in-None.new.answer
-    (on_named_nowhere c.in-Insert.name (λ timeline. performs timeline c.in-Ok.command) c.args.self.now c.in-None.ensures)
-    (rw c.requires.empty at c.tell_refusal-in-None.ensures.answer) c.tell_refusal-in-None.ensures.refused)
+pub returns-in-Insert : goal.returns-in-Insert
+returns-in-Insert g c =
+    rw (c.in-Ok.is, by_name c.args.self.now c.in-Ok.command c.in-Insert.name c.in-Insert.is) c.perform.ensures
