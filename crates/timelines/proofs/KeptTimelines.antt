@@ -108,3 +108,7 @@ kept_told (Err e) name effect kept settled index there after before text empty a
 pub shown_more : (kept : List KeptTimeline) (last : KeptTimeline) → shown (kept ++ last ∷ []) ≡ shown kept ++ last.timeline ∷ []
 shown_more [] last = refl
 shown_more (k ∷ kept) last = ap (λ timelines. k.timeline ∷ timelines) (shown_more kept last)
+
+pub unspent_more : (kept : List KeptTimeline) (last : KeptTimeline) → AllByRecursion IsUnspent kept → IsUnspent last → AllByRecursion IsUnspent (kept ++ last ∷ [])
+unspent_more [] last all unspent = (unspent, tt)
+unspent_more (k ∷ kept) last all unspent = (all.0, unspent_more kept last all.1 unspent)

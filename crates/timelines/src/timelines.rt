@@ -1,6 +1,6 @@
 //! The timelines of a bench, by their names.
 
-ghost use Rattle.std.specs.Prelude.{◌≡◌, ◌<◌, [], length, true, false, nat_le, option_map, position, slice_get, Some, None, IfOk, IfSome, OnErr, MatchOption};
+ghost use Rattle.std.specs.Prelude.{◌≡◌, ◌<◌, [], ◌∷◌, ◌++◌, length, true, false, nat_le, option_map, position, slice_get, Some, None, IfOk, IfSome, OnErr, OnOk, MatchOption};
 ghost use Rattle.std.specs.List.{list_any, remove, AllByRecursion};
 ghost use Rattle.retro_base.specs.Limits.{most_timelines};
 ghost use Rattle.retro_base.specs.Replay.{present};
@@ -138,8 +138,18 @@ impl<R: AnyStructure> Timelines<R> {
             return Ok(Outcome::refused(Refusal::Timelines));
         }
         let timeline = NamedTimeline::new(self.alloc, name, kind, fused)?;
-        self.timelines.push(timeline)?;
+        self.add(timeline)?;
         Ok(Outcome::Accepted)
+    }
+
+    /// Puts a timeline behind the others. After `NoMemory` all is as before.
+    fn add(&mut self, timeline: NamedTimeline<R>) -> Result<(), NoMemory>
+        requires unspent { IsUnspent timeline }
+        ensures ok { OnOk result (self.new ≡ self.old ++ timeline.timeline ∷ []) }
+        ensures err { OnErr result (self.new ≡ self.old) }
+    {
+        self.timelines.push(timeline)?;
+        Ok(())
     }
 
     /// Closes a block: its rows become a timeline, where its name is free, there is room for one more, and nothing is
@@ -166,7 +176,7 @@ impl<R: AnyStructure> Timelines<R> {
     {
         match unclosed.into_timeline(self.alloc, ended)? {
             Ok(loaded) => {
-                self.timelines.push(loaded.timeline)?;
+                self.add(loaded.timeline)?;
                 Ok(Outcome::Loaded {
                     evidence: loaded.evidence,
                 })
