@@ -5,6 +5,26 @@ use Rattle.timelines.proofs.Memory.{shift_memory, shifted_memory}
 use Rattle.timelines.proofs.TimelineEffects.{made_replays, shift_refused, shifted_told}
 use Rattle.timelines.proofs.named_timeline.NamedTimeline.shift_at.Goals as goal
 
+pub refusal_of_one_more-requires : goal.refusal_of_one_more-requires
+refusal_of_one_more-requires g c = record { unspent = c.requires.unspent }
+
+pub returns-in-Some-clause-ok : goal.returns-in-Some-clause-ok
+returns-in-Some-clause-ok g c step shifted = rw c.refused.ensures (c.in-Some.ensures _)
+
+pub returns-in-Some-clause-unspent : goal.returns-in-Some-clause-unspent
+returns-in-Some-clause-unspent g c = c.requires.unspent
+
+pub next-number-requires : goal.next-number-requires
+next-number-requires g c = record { unspent = rw (← c.self.view_is) at c.requires.unspent }
+
+pub shift-requires : goal.shift-requires
+shift-requires g c = record {
+  unspent = rw (← c.self.view_is) at c.requires.unspent;
+  within = rw (← c.self.view_is) at c.requires.within;
+  room = (rw (← c.self.view_is) at c.in_default.ensures).0;
+  of_kind = rw (← c.self.view_is) at c.requires.of_kind;
+}
+
 pub returns-in-Ok-clause-ok : goal.returns-in-Ok-clause-ok
 returns-in-Ok-clause-ok g c =
     let done = c.in-Ok.ensures in
