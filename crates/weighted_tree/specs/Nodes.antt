@@ -1,7 +1,7 @@
 -- What a link leads to.
 use Rattle.std.specs.Prelude.{◌≡◌, ℕ, ◌+◌, ◌^◌, ◌<◌, ◌≤◌, List, [], ◌∷◌, ◌++◌, length}
 use Rattle.monoids.specs.Measure.{measure_of}
-use Rattle.weighted_tree.specs.Balance.{Part, weight, IsBalanced, IsNearlyBalanced}
+use Rattle.weighted_tree.specs.Balance.{Part, no_part, weight, IsBalanced, IsNearlyBalanced}
 use Rattle.weighted_tree.specs.declared.subtree.Link.{Link}
 use Rattle.weighted_tree.specs.declared.subtree.Link.TheVariants.{Empty, Leaf, Full}
 use Rattle.weighted_tree.specs.declared.subtree.Node.{Node}
@@ -74,6 +74,12 @@ abbrev pub IsUnsettled : {A M : Type 0} → Link A M → Type 0
 IsUnsettled Empty = 1 ≤ 0
 IsUnsettled (Leaf closed measure) = 1 ≤ 0
 IsUnsettled (Full size nodes closed measure) = HasChangedSide nodes closed.node.value
+
+-- there is a node, and nothing on its right
+abbrev pub HasNoRight : {A M : Type 0} → Link A M → Type 0
+HasNoRight Empty = 1 ≤ 0
+HasNoRight (Leaf closed measure) = 1 ≤ 0
+HasNoRight (Full size nodes closed measure) = closed.node.value.right ≡ no_part
 
 -- the node is the root of a subtree, the number of whose items has 32 bits
 pub record IsRoot {A M : Type 0} (part : Part A) (node : Node A M) : Type 0 where

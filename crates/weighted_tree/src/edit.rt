@@ -3,7 +3,7 @@ ghost use Rattle.std.specs.Prelude.{◌≡◌, ◌+◌, ◌^◌, ◌<◌, ◌≤
 ghost use Rattle.std.specs.List.{insert, remove};
 ghost use Rattle.weighted_tree.specs.Balance.{weight, IsUpToOneMore};
 ghost use Rattle.weighted_tree.specs.Levels.{FourALevel};
-ghost use Rattle.weighted_tree.specs.Nodes.{full};
+ghost use Rattle.weighted_tree.specs.Nodes.{full, items_of, nodes_of, HasNoRight, IsSound};
 
 use crate::leaf::{FULL, divide};
 use crate::leaf_edit::exchanged;
@@ -226,12 +226,7 @@ impl<T: Measured> Subtree<T> {
             let next = node.right.remove_below(0, steps);
             mem::replace(&mut node.item, next)
         } else {
-            let Link::Full { node, .. } = mem::replace(&mut self.link, Link::Empty) else {
-                unreachable!()
-            };
-            let mut node = node.into_open(steps);
-            *self = node.take(Side::Left);
-            return node.item;
+            return self.link.remove_last(steps);
         };
         let count = node.nodes();
         let told = measure.without(item.measure());
@@ -314,5 +309,23 @@ impl<T: Measured> Subtree<T> {
             unreachable!()
         };
         items.replace(place as usize, item, measure, steps)
+    }
+}
+
+impl<T: Measured> Link<T> {
+    /// Visits the node, on whose right there is nothing, and removes it: what stands on its left stays, and its item is given.
+    fn remove_last<L: Ledger>(&mut self, steps: &mut Steps<L>) -> T
+        requires last { HasNoRight self.old }
+        ensures sound { IsSound T.Measure.unit_value T.Measure.joined T.measured self.new }
+        ensures items { items_of self.old ≡ items_of self.new ++ result ∷ [] }
+        ensures nodes { nodes_of self.old ≡ nodes_of self.new + 1 }
+        ensures visit { steps.new ≡ steps.old + 1 }
+    {
+        let Link::Full { node, .. } = mem::replace(self, Link::Empty) else {
+            unreachable!()
+        };
+        let mut node = node.into_open(steps);
+        *self = node.take(Side::Left).link;
+        node.item
     }
 }

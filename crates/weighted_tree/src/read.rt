@@ -52,10 +52,7 @@ impl<T: Measured> Subtree<T> {
         let (mut subtree, mut start, mut end) = (self, from, to);
         'down: while start < end {
             let Some(node) = subtree.root(steps) else {
-                let Some(items) = subtree.leaf(steps) else {
-                    unreachable!()
-                };
-                return measure_between(items, start as usize, end as usize);
+                return subtree.between_in_leaf(start, end, steps);
             };
             let before = node.left.len();
             if end <= before {
@@ -73,6 +70,23 @@ impl<T: Measured> Subtree<T> {
         T::Measure::unit()
     }
 
+    /// The same where there is no node.
+    #[inline(always)]
+    fn between_in_leaf<L: Ledger>(&self, from: u32, to: u32, steps: &mut Steps<L>) -> T::Measure
+        requires leaf { self.now.nodes ≡ 0 }
+        requires some { 0 < length self.now.items }
+        requires order { from ≤ to }
+        requires within { to ≤ length self.now.items }
+        ensures value { result ≡ measure_in T.Measured T.Measure.Monoid (slice_range self.now.items from to) }
+        ensures items { T.Measure.items_of result + from ≡ to }
+        ensures visit { steps.new ≡ steps.old + 1 }
+    {
+        let Some(items) = self.leaf(steps) else {
+            unreachable!()
+        };
+        measure_between(items, from as usize, to as usize)
+    }
+
     /// The measure of the items before `to`.
     #[inline(always)]
     pub(crate) fn prefix<L: Ledger>(&self, to: u32, steps: &mut Steps<L>) -> T::Measure
@@ -86,10 +100,7 @@ impl<T: Measured> Subtree<T> {
         let mut before = T::Measure::unit();
         'down: while rest < subtree.len() {
             let Some(node) = subtree.root(steps) else {
-                let Some(items) = subtree.leaf(steps) else {
-                    unreachable!()
-                };
-                return before.join(measure_between(items, 0, rest as usize));
+                return before.join(subtree.between_in_leaf(0, rest, steps));
             };
             let count = node.left.len();
             if rest <= count {
@@ -116,11 +127,8 @@ impl<T: Measured> Subtree<T> {
         let mut after = T::Measure::unit();
         'down: while rest < subtree.len() {
             let Some(node) = subtree.root(steps) else {
-                let Some(items) = subtree.leaf(steps) else {
-                    unreachable!()
-                };
-                let end = items.len();
-                return measure_between(items, end - rest as usize, end).join(after);
+                let end = subtree.len();
+                return subtree.between_in_leaf(end - rest, end, steps).join(after);
             };
             let count = node.right.len();
             if rest <= count {

@@ -2,7 +2,7 @@ use Rattle.std.proofs.Common.{rules, ◌≡◌, ◌-◌, refl, arith, ◌∙◌,
 use Rattle.std.specs.List.{remove}
 use Rattle.std.specs.Prelude.{slice_get, Some}
 use Rattle.weighted_tree.specs.Nodes.{nodes_of, part_of, node_items, IsSound}
-use Rattle.weighted_tree.proofs.InPlace.{root_of, node_of}
+use Rattle.weighted_tree.proofs.InPlace.{root_of}
 use Rattle.weighted_tree.proofs.Levels.{level_left, level_right}
 use Rattle.weighted_tree.proofs.Middles.{get-before, get-middle, get-after, remove-before, remove-middle, remove-after, next-then-rest}
 use Rattle.weighted_tree.proofs.Told.{told_without}
@@ -22,19 +22,6 @@ returns-in_default g t c =
       some = omega (arith, done.visit);
       visits = λ levels within. omega (arith, done.visit);
     })
-
-pub returns-else-len-gt0-clause-item : goal.returns-else-len-gt0-clause-item
-returns-else-len-gt0-clause-item g t c =
-    let node = c.in-Full.closed.node.value in
-    let opened = c.deref_mut-node.ensures.value ∙ ap (λ b. b.value) c.open_mut.ensures.node in
-    let before = ap (λ n. length n.left.items) opened in
-    let place : c.args.place ≡ length node.left.items = omega arith in
-    let same : c.in-Full-replace.node.node.value ≡ node = ap (node_of node) (sym c.in-Full-replace.is ∙ c.replace-else-len-gt0.ensures.value) ∙ opened in
-    let item_is : c.deref.result.now.item ≡ node.item = rw (c.deref.ensures, c.take.ensures.rest, c.deref_mut.ensures.value, c.into_open-node.ensures.node, same) refl in
-    ap (λ part. slice_get part.items c.args.place) (sym c.self.view_is ∙ ap part_of c.in-Full.is)
-    ∙ ap (slice_get (node_items node)) place
-    ∙ get-middle node.left.items node.right.items node.item
-    ∙ ap Some (sym item_is)
 
 pub settle_told-requires-clause-told : goal.settle_told-requires-clause-told
 settle_told-requires-clause-told g t c =

@@ -34,4 +34,4 @@ pub returns-clause-visits : goal.returns-clause-visits
 returns-clause-visits g c = c.down.invariant.levels c.down.steps (λ levels within. omega arith)
 
 pub returns-in_default-clause-visits : goal.returns-in_default-clause-visits
-returns-in_default-clause-visits g c = c.down.invariant.levels _ (λ levels within. omega (arith, c.in_default.ensures.1, c.in-Some-leaf.ensures.1))
+returns-in_default-clause-visits g c = c.down.invariant.levels _ (λ levels within. omega (arith, c.in_default.ensures.1, c.between_in_leaf.ensures.visit))
