@@ -169,9 +169,27 @@ impl<T: Measured> Subtree<T> {
                 subtree = &node.left;
             }
         }
-        match subtree.leaf(steps) {
-            Some(items) => end - items.len() as u32 + partition_in(items, test) as u32,
-            None => end,
+        end - subtree.len() + subtree.partition_in_leaf(test, steps)
+    }
+
+    /// The same where there is no node.
+    #[inline(always)]
+    fn partition_in_leaf<F: Fn(&T) -> bool, L: Ledger>(
+        &self,
+        test: &F,
+        steps: &mut Steps<L>,
+    ) -> u32
+        requires leaf { self.now.nodes ≡ 0 }
+        requires callable { F.IsAlwaysCallable test.now }
+        ensures partition { FindsPartition F.Fn test.now self.now.items result }
+        ensures within { result ≤ length self.now.items }
+        ensures none_lost { steps.old ≤ steps.new }
+        ensures some { 0 < length self.now.items → steps.old + 1 ≤ steps.new }
+        ensures visits { steps.new ≤ steps.old + 1 }
+    {
+        match self.leaf(steps) {
+            Some(items) => partition_in(items, test) as u32,
+            None => 0,
         }
     }
 }

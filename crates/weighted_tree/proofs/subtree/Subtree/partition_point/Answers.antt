@@ -1,9 +1,12 @@
-use Rattle.std.proofs.Common.{◌+◌, ◌∙◌, sym, ap, subst, arith, length}
+use Rattle.std.proofs.Common.{ℕ, ◌+◌, ◌<◌, ◌≤◌, ◌∙◌, refl, sym, subst, arith, length}
 use Rattle.std.specs.List.Sorted.{IsPartitionedBy}
 use Rattle.weighted_tree.proofs.Descents.{sizes_of}
 use Rattle.weighted_tree.proofs.Levels.{one_left, one_right}
 use Rattle.weighted_tree.proofs.Partitions.{HasBoundary, own_boundary, turn_left, turn_right, boundary_after, turned}
 use Rattle.weighted_tree.proofs.subtree.Subtree.partition_point.Goals as goal
+
+visited : (part whole first down last : ℕ) → (part < whole → first + 1 ≤ down) → part ≤ whole → down ≤ last → (0 < part → down + 1 ≤ last) → first ≤ down → 0 < whole → first + 1 ≤ last
+visited part whole first down last before within lost leaf former some = grind arith
 
 pub down-init : goal.down-init
 down-init g c = record {
@@ -49,13 +52,49 @@ down-preserved g c =
       levels = λ after below. c.down.invariant.levels after (one_left c.down.subtree.now node _ _ root c.in-Some.ensures.1 after below);
     }
 
-pub returns-in-Some-leaf-clause-partition : goal.returns-in-Some-leaf-clause-partition
-returns-in-Some-leaf-clause-partition g c = λ holds tells parted.
-    turned (c.down.invariant.boundary holds tells parted) c.in-Some-leaf.items.now c.in-Some-leaf.ensures.0 c.partition_in.result c.partition_in.ensures.within
-    (c.partition_in.ensures.partition holds tells) _ (omega (arith, ap length c.in-Some-leaf.ensures.0))
+pub returns-clause-partition : goal.returns-clause-partition
+returns-clause-partition g c = λ holds tells parted.
+    turned (c.down.invariant.boundary holds tells parted) c.down.subtree.now.items refl c.partition_in_leaf.result c.partition_in_leaf.ensures.within
+    (c.partition_in_leaf.ensures.partition holds tells) _ (omega arith)
 
-pub returns-in-Some-leaf-clause-visits : goal.returns-in-Some-leaf-clause-visits
-returns-in-Some-leaf-clause-visits g c = c.down.invariant.levels _ (λ levels within. omega (arith, c.in-Some-leaf.ensures.1))
+pub returns-clause-visits : goal.returns-clause-visits
+returns-clause-visits g c = c.down.invariant.levels _ (λ levels within. omega (arith, c.in_default.ensures.1, c.partition_in_leaf.ensures.visits))
 
-pub returns-in-None-clause-visits : goal.returns-in-None-clause-visits
-returns-in-None-clause-visits g c = c.down.invariant.levels _ (λ levels within. omega (arith, c.in_default.ensures.1, c.in-None.ensures.1))
+pub down-smaller-then-passes : goal.down-smaller-then-passes
+down-smaller-then-passes g c =
+    let node = c.in-Some.node.now in
+    omega (arith, sizes_of c.down.subtree.now.items node.left.items node.right.items node.item c.in-Some.ensures.0.items_are)
+
+pub down-smaller : goal.down-smaller
+down-smaller g c =
+    let node = c.in-Some.node.now in
+    omega (arith, sizes_of c.down.subtree.now.items node.left.items node.right.items node.item c.in-Some.ensures.0.items_are)
+
+pub overflow_sub-end : goal.overflow_sub-end
+overflow_sub-end g c =
+    let node = c.in-Some.node.now in
+    omega (arith, sizes_of c.down.subtree.now.items node.left.items node.right.items node.item c.in-Some.ensures.0.items_are)
+
+pub overflow_sub-end-else-passes : goal.overflow_sub-end-else-passes
+overflow_sub-end-else-passes g c =
+    let node = c.in-Some.node.now in
+    omega (arith, sizes_of c.down.subtree.now.items node.left.items node.right.items node.item c.in-Some.ensures.0.items_are)
+
+pub overflow_sub-result : goal.overflow_sub-result
+overflow_sub-result g c = omega arith
+
+pub overflow_add-result : goal.overflow_add-result
+overflow_add-result g c = omega arith
+
+pub returns-clause-within : goal.returns-clause-within
+returns-clause-within g c = omega arith
+
+pub returns-clause-few : goal.returns-clause-few
+returns-clause-few g c = c.len-end.ensures.few
+
+pub returns-clause-none_lost : goal.returns-clause-none_lost
+returns-clause-none_lost g c = omega (arith, c.in_default.ensures.1)
+
+-- a step was counted on the way down, or is counted at its end
+pub returns-clause-some : goal.returns-clause-some
+returns-clause-some g c = visited _ _ _ _ _ (λ fewer. omega (arith, c.in_default.ensures.1, c.down.invariant.some fewer)) (omega arith) c.partition_in_leaf.ensures.none_lost c.partition_in_leaf.ensures.some (omega (arith, c.in_default.ensures.1))
