@@ -63,8 +63,7 @@ fn session_of<R: Retro + Drop>(
     ensures evidence { OnOk result (evidence.new ≡ loaded_evidence name (R.kind structure) rows.now) }
 {
     let mut session = Session::new(alloc, structure, next)?;
-    append_all(&mut session, name, rows, evidence)?;
-    Ok(session)
+    append_all(&mut session, name, rows, evidence).and(Ok(session))
 }
 
 /// Appends rows to a session without rows, one after another, and notes their evidence.
