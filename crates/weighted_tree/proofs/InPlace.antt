@@ -7,8 +7,6 @@ use Rattle.std.proofs.lemmas.List.{length-set}
 use Rattle.monoids.specs.Measure.{measure_of}
 use Rattle.weighted_tree.specs.Balance.{Part}
 use Rattle.weighted_tree.specs.Nodes.{node_items, node_part, IsNode, IsRoot}
-use Rattle.weighted_tree.specs.declared.subtree.Link.{Link}
-use Rattle.weighted_tree.specs.declared.subtree.Link.TheVariants.{Empty, Leaf, Full}
 use Rattle.weighted_tree.specs.declared.subtree.Node.{Node}
 use Rattle.weighted_tree.proofs.Middles.{set-before, set-middle, set-after}
 
@@ -69,9 +67,3 @@ pub no_shorter : {A T E : Type 0} (answer : Result T E) (former new : Part A) (p
     → OnOk answer (new.items ≡ insert former.items place item) → OnErr answer (new ≡ former) → length former.items ≤ length new.items
 no_shorter (Ok value) former new place item within same none = omega (arith, ap length same, length-insert former.items place item within)
 no_shorter (Err error) former new place item within none same = omega (arith, ap (λ part. length part.items) same)
-
--- the node that a link leads to
-abbrev pub node_of : {A M : Type 0} → Node A M → Link A M → Node A M
-node_of none Empty = none
-node_of none (Leaf closed measure) = none
-node_of none (Full size nodes closed measure) = closed.node.value
