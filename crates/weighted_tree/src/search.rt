@@ -174,11 +174,7 @@ impl<T: Measured> Subtree<T> {
 
     /// The same where there is no node.
     #[inline(always)]
-    fn partition_in_leaf<F: Fn(&T) -> bool, L: Ledger>(
-        &self,
-        test: &F,
-        steps: &mut Steps<L>,
-    ) -> u32
+    fn partition_in_leaf<F: Fn(&T) -> bool, L: Ledger>(&self, test: &F, steps: &mut Steps<L>) -> u32
         requires leaf { self.now.nodes ≡ 0 }
         requires callable { F.IsAlwaysCallable test.now }
         ensures partition { FindsPartition F.Fn test.now self.now.items result }
