@@ -26,15 +26,6 @@ returns-in_default g t c =
       visits = λ levels within. omega (arith, done.visits);
     })
 
-pub returns-in_err-insert_below-clause-few : goal.returns-in_err-insert_below-clause-few
-returns-in_err-insert_below-clause-few g t c =
-    let sound = subst (IsSound g.T.Measure.Monoid.unit_value g.T.Measure.Monoid.joined g.T.Measured.measured) c.in-Full.is c.self.invariant in
-    let root = root_of sound (sym (ap part_of c.in-Full.is) ∙ c.self.view_is) in
-    root.few
-
-pub returns-in_err-insert_below-clause-none_lost : goal.returns-in_err-insert_below-clause-none_lost
-returns-in_err-insert_below-clause-none_lost g t c = omega (arith, c.open_mut.ensures.visit, c.insert_below.ensures.none_lost)
-
 pub returns-in_err-insert_below-clause-visits : goal.returns-in_err-insert_below-clause-visits
 returns-in_err-insert_below-clause-visits g t c =
     let node = c.in-Full.closed.node.value in
@@ -42,15 +33,6 @@ returns-in_err-insert_below-clause-visits g t c =
     let sound = subst (IsSound g.T.Measure.Monoid.unit_value g.T.Measure.Monoid.joined g.T.Measured.measured) c.in-Full.is c.self.invariant in
     let root = root_of sound (sym (ap part_of c.in-Full.is) ∙ c.self.view_is) in
     level_left _ node _ _ c.insert_below.new.steps _ root c.open_mut.ensures.visit (rw opened at c.insert_below.ensures.visits) (omega arith)
-
-pub returns-in_err-insert_below-2-clause-few : goal.returns-in_err-insert_below-2-clause-few
-returns-in_err-insert_below-2-clause-few g t c =
-    let sound = subst (IsSound g.T.Measure.Monoid.unit_value g.T.Measure.Monoid.joined g.T.Measured.measured) c.in-Full.is c.self.invariant in
-    let root = root_of sound (sym (ap part_of c.in-Full.is) ∙ c.self.view_is) in
-    root.few
-
-pub returns-in_err-insert_below-2-clause-none_lost : goal.returns-in_err-insert_below-2-clause-none_lost
-returns-in_err-insert_below-2-clause-none_lost g t c = omega (arith, c.open_mut.ensures.visit, c.insert_below-else-place-before.ensures.none_lost)
 
 pub returns-in_err-insert_below-2-clause-visits : goal.returns-in_err-insert_below-2-clause-visits
 returns-in_err-insert_below-2-clause-visits g t c =

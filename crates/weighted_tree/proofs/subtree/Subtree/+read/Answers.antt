@@ -26,15 +26,6 @@ returns-then-from-before-clause-items g t c =
     let rest = drop_right c.args.self.now.items node.left.items node.right.items node.item c.in-Some.ensures.0.items_are c.args.from (c.args.from - c.len-before.result - 1) (omega arith) (omega arith) in
     λ shows tells. c.read.ensures.items shows tells ∙ ap (λ xs. overwritten c.args.items.now c.args.filled (map shows (take (c.read.result - c.args.filled) xs))) rest
 
-pub returns-then-from-before-clause-size : goal.returns-then-from-before-clause-size
-returns-then-from-before-clause-size g t c = c.read.ensures.size
-
-pub returns-then-from-before-clause-few : goal.returns-then-from-before-clause-few
-returns-then-from-before-clause-few g t c = c.len.ensures.few
-
-pub returns-then-from-before-clause-each : goal.returns-then-from-before-clause-each
-returns-then-from-before-clause-each g t c = omega (arith, c.in-Some.ensures.1, c.read.ensures.each)
-
 pub returns-then-from-before-clause-visits : goal.returns-then-from-before-clause-visits
 returns-then-from-before-clause-visits g t c =
     let node = c.in-Some.node.now in
@@ -59,15 +50,6 @@ returns-then-end-items-clause-items g t c =
     let node = c.in-Some.node.now in
     λ shows tells. c.read-end.ensures.items shows tells ∙ ap (λ xs. overwritten c.args.items.now c.args.filled (map shows xs))
     (written_left c.args.self.now.items node.left.items node.right.items node.item c.in-Some.ensures.0.items_are c.args.from (c.read-end.result - c.args.filled) (omega arith) (omega arith))
-
-pub returns-then-end-items-clause-size : goal.returns-then-end-items-clause-size
-returns-then-end-items-clause-size g t c = c.read-end.ensures.size
-
-pub returns-then-end-items-clause-few : goal.returns-then-end-items-clause-few
-returns-then-end-items-clause-few g t c = c.len.ensures.few
-
-pub returns-then-end-items-clause-each : goal.returns-then-end-items-clause-each
-returns-then-end-items-clause-each g t c = omega (arith, c.in-Some.ensures.1, c.read-end.ensures.each)
 
 pub returns-then-end-items-clause-visits : goal.returns-then-end-items-clause-visits
 returns-then-end-items-clause-visits g t c =
@@ -94,15 +76,6 @@ returns-clause-items g t c =
     c.read-end.new.items c.read-2.new.items c.args.filled c.args.from c.read-end.result c.read-2.result
     c.requires.room (omega arith) (omega arith) (omega arith) (omega arith) (c.read-end.ensures.items shows tells)
     (rw (← tells node.item _ c.show.ensures) (c.read-2.ensures.items shows tells))
-
-pub returns-clause-size : goal.returns-clause-size
-returns-clause-size g t c = c.read-2.ensures.size ∙ length-set c.read-end.new.items c.read-end.result c.show.result ∙ c.read-end.ensures.size
-
-pub returns-clause-few : goal.returns-clause-few
-returns-clause-few g t c = c.len.ensures.few
-
-pub returns-clause-each : goal.returns-clause-each
-returns-clause-each g t c = omega (arith, c.in-Some.ensures.1, c.read-end.ensures.each, c.read-2.ensures.each)
 
 pub returns-clause-visits : goal.returns-clause-visits
 returns-clause-visits g t c =
