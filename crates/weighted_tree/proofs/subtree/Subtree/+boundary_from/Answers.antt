@@ -12,18 +12,6 @@ returns-in_default-clause-sought g t c =
     let measures = λ (m : g.row.T-Measure.Denot). passing c.args.side g.T.Measured g.T.Measure.Monoid m (drop c.args.from (seen_from c.args.side c.args.self.now.items)) in
     from_start g.F.Fn c.args.test.now g.T.Measure.Monoid.items_of measures _ c.unit.result g.T.Measure.Monoid.unit_value _ c.unit.ensures g.met.T.Measure.Monoid.laws.unit_items c.boundary_in_leaf.ensures.sought
 
-pub returns-in_default-clause-fits : goal.returns-in_default-clause-fits
-returns-in_default-clause-fits g t c = omega arith
-
-pub returns-in_default-clause-few : goal.returns-in_default-clause-few
-returns-in_default-clause-few g t c = c.len.ensures.few
-
-pub returns-in_default-clause-none_lost : goal.returns-in_default-clause-none_lost
-returns-in_default-clause-none_lost g t c = omega (arith, c.in_default.ensures.1, c.boundary_in_leaf.ensures.none_lost)
-
-pub returns-in_default-clause-some : goal.returns-in_default-clause-some
-returns-in_default-clause-some g t c = λ within. omega (arith, c.in_default.ensures.1, c.boundary_in_leaf.ensures.some (omega arith))
-
 pub returns-in_default-clause-visits : goal.returns-in_default-clause-visits
 returns-in_default-clause-visits g t c = leaf_search _ _ _ _ (omega arith)
 
@@ -37,18 +25,6 @@ returns-then-passes-clause-sought g t c =
     carried laws g.T.Measured.measured g.T.Measure.Monoid.unit_value g.F.Fn c.args.test.now _ items _ (length c.args.self.now.items) (ap (λ k. drop k items) c.if-from-eq0.true) (omega arith) _
     (whole_found laws g.T.Measured.measured g.T.Measure.Monoid.unit_value g.F.Fn c.args.test.now items _ (length-seen c.args.side c.args.self.now.items) _ _ all c.passes.ensures c.if-passes.true _ boundary)
 
-pub returns-then-passes-clause-fits : goal.returns-then-passes-clause-fits
-returns-then-passes-clause-fits g t c = omega arith
-
-pub returns-then-passes-clause-few : goal.returns-then-passes-clause-few
-returns-then-passes-clause-few g t c = c.len.ensures.few
-
-pub returns-then-passes-clause-none_lost : goal.returns-then-passes-clause-none_lost
-returns-then-passes-clause-none_lost g t c = omega (arith, c.in-Some.ensures.1, c.boundary_within.ensures.none_lost)
-
-pub returns-then-passes-clause-some : goal.returns-then-passes-clause-some
-returns-then-passes-clause-some g t c = λ within. omega (arith, c.in-Some.ensures.1, c.boundary_within.ensures.none_lost)
-
 pub returns-then-passes-clause-visits : goal.returns-then-passes-clause-visits
 returns-then-passes-clause-visits g t c = once_more _ _ _ _ c.in-Some.ensures.1 (omega (arith, c.in-Some.ensures.0.nodes_are)) c.boundary_within.ensures.visits
 
@@ -61,18 +37,6 @@ returns-else-passes-clause-sought g t c =
     (whole_open laws g.T.Measured.measured g.T.Measure.Monoid.unit_value g.F.Fn c.args.test.now items _
     (length-seen c.args.side c.args.self.now.items) _ _ all c.passes.ensures c.if-passes.false c.whole-all.ensures.items)
 
-pub returns-else-passes-clause-fits : goal.returns-else-passes-clause-fits
-returns-else-passes-clause-fits g t c = omega arith
-
-pub returns-else-passes-clause-few : goal.returns-else-passes-clause-few
-returns-else-passes-clause-few g t c = c.len.ensures.few
-
-pub returns-else-passes-clause-none_lost : goal.returns-else-passes-clause-none_lost
-returns-else-passes-clause-none_lost g t c = omega (arith, c.in-Some.ensures.1)
-
-pub returns-else-passes-clause-some : goal.returns-else-passes-clause-some
-returns-else-passes-clause-some g t c = λ within. omega (arith, c.in-Some.ensures.1)
-
 pub returns-else-passes-clause-visits : goal.returns-else-passes-clause-visits
 returns-else-passes-clause-visits g t c = one_left _ c.in-Some.node.now _ _ c.in-Some.ensures.0 c.in-Some.ensures.1 _ (λ levels within. omega arith)
 
@@ -82,18 +46,6 @@ returns-then-from-place-clause-sought g t c =
     let root = c.sides.ensures _ c.in-Some.ensures.0 in
     let beyond = left_beyond root c.args.from (omega arith) ∙ ap (λ n. drop (c.args.from - n - 1) (seen_from c.args.side c.sides.result.1.now.items)) (sym c.len-place.ensures.count) in
     carried laws g.T.Measured.measured g.T.Measure.Monoid.unit_value g.F.Fn c.args.test.now _ _ _ _ beyond (omega (arith, root.sizes)) _ c.boundary_from.ensures.sought
-
-pub returns-then-from-place-clause-fits : goal.returns-then-from-place-clause-fits
-returns-then-from-place-clause-fits g t c = omega arith
-
-pub returns-then-from-place-clause-few : goal.returns-then-from-place-clause-few
-returns-then-from-place-clause-few g t c = c.len.ensures.few
-
-pub returns-then-from-place-clause-none_lost : goal.returns-then-from-place-clause-none_lost
-returns-then-from-place-clause-none_lost g t c = omega (arith, c.in-Some.ensures.1, c.boundary_from.ensures.none_lost)
-
-pub returns-then-from-place-clause-some : goal.returns-then-from-place-clause-some
-returns-then-from-place-clause-some g t c = λ within. omega (arith, c.in-Some.ensures.1, c.boundary_from.ensures.none_lost)
 
 pub returns-then-from-place-clause-visits : goal.returns-then-from-place-clause-visits
 returns-then-from-place-clause-visits g t c = search_far (c.sides.ensures _ c.in-Some.ensures.0) _ _ c.in-Some.ensures.1 _ _ c.boundary_from.ensures.visits
@@ -105,18 +57,6 @@ returns-in-Found-clause-sought g t c =
     let parts = parted_from root c.args.from (omega arith) in
     near_found laws g.T.Measured.measured g.T.Measure.Monoid.unit_value parts g.F.Fn c.args.test.now _ c.in-Found.ensures.sought
 
-pub returns-in-Found-clause-fits : goal.returns-in-Found-clause-fits
-returns-in-Found-clause-fits g t c = omega arith
-
-pub returns-in-Found-clause-few : goal.returns-in-Found-clause-few
-returns-in-Found-clause-few g t c = c.len.ensures.few
-
-pub returns-in-Found-clause-none_lost : goal.returns-in-Found-clause-none_lost
-returns-in-Found-clause-none_lost g t c = omega (arith, c.in-Some.ensures.1, c.in-Found.ensures.none_lost)
-
-pub returns-in-Found-clause-some : goal.returns-in-Found-clause-some
-returns-in-Found-clause-some g t c = λ within. omega (arith, c.in-Some.ensures.1, c.in-Found.ensures.none_lost)
-
 pub returns-in-Found-clause-visits : goal.returns-in-Found-clause-visits
 returns-in-Found-clause-visits g t c = four_near (c.sides.ensures _ c.in-Some.ensures.0) _ _ c.in-Some.ensures.1 _ c.in-Found.ensures.visits
 
@@ -127,18 +67,6 @@ returns-then-passes-2-clause-sought g t c =
     let parts = parted_from root c.args.from (omega arith) in
     let near = near_open laws g.T.Measured.measured g.T.Measure.Monoid.unit_value parts g.F.Fn c.args.test.now _ c.in-Open.ensures.sought in
     item_found laws g.T.Measured.measured g.T.Measure.Monoid.unit_value parts g.F.Fn c.args.test.now near.0 _ _ _ near.1 c.passed-next.ensures.value c.passes-2.ensures c.if-passes-2.true _ (omega arith)
-
-pub returns-then-passes-2-clause-fits : goal.returns-then-passes-2-clause-fits
-returns-then-passes-2-clause-fits g t c = omega arith
-
-pub returns-then-passes-2-clause-few : goal.returns-then-passes-2-clause-few
-returns-then-passes-2-clause-few g t c = c.len.ensures.few
-
-pub returns-then-passes-2-clause-none_lost : goal.returns-then-passes-2-clause-none_lost
-returns-then-passes-2-clause-none_lost g t c = omega (arith, c.in-Some.ensures.1, c.in-Open.ensures.none_lost)
-
-pub returns-then-passes-2-clause-some : goal.returns-then-passes-2-clause-some
-returns-then-passes-2-clause-some g t c = λ within. omega (arith, c.in-Some.ensures.1, c.in-Open.ensures.none_lost)
 
 pub returns-then-passes-2-clause-visits : goal.returns-then-passes-2-clause-visits
 returns-then-passes-2-clause-visits g t c = few_of_one _ _ _ (one_near (c.sides.ensures _ c.in-Some.ensures.0) _ _ c.in-Some.ensures.1 _ c.in-Open.ensures.visits)
@@ -153,18 +81,6 @@ returns-then-passes-3-clause-sought g t c =
     c.passes-2.ensures _ _ c.passed-all.ensures.value c.passes-3.ensures c.if-passes-2.false c.if-passes-3.true _
     c.boundary_within-then-passes-3.ensures.boundary _ (omega arith)
 
-pub returns-then-passes-3-clause-fits : goal.returns-then-passes-3-clause-fits
-returns-then-passes-3-clause-fits g t c = omega arith
-
-pub returns-then-passes-3-clause-few : goal.returns-then-passes-3-clause-few
-returns-then-passes-3-clause-few g t c = c.len.ensures.few
-
-pub returns-then-passes-3-clause-none_lost : goal.returns-then-passes-3-clause-none_lost
-returns-then-passes-3-clause-none_lost g t c = omega (arith, c.in-Some.ensures.1, c.in-Open.ensures.none_lost, c.boundary_within-then-passes-3.ensures.none_lost)
-
-pub returns-then-passes-3-clause-some : goal.returns-then-passes-3-clause-some
-returns-then-passes-3-clause-some g t c = λ within. omega (arith, c.in-Some.ensures.1, c.in-Open.ensures.none_lost, c.boundary_within-then-passes-3.ensures.none_lost)
-
 pub returns-then-passes-3-clause-visits : goal.returns-then-passes-3-clause-visits
 returns-then-passes-3-clause-visits g t c = near_then_far (c.sides.ensures _ c.in-Some.ensures.0) _ _ c.in-Some.ensures.1 _ _ c.in-Open.ensures.visits c.boundary_within-then-passes-3.ensures.visits
 
@@ -176,18 +92,6 @@ returns-else-passes-3-clause-sought g t c =
     let near = near_open laws g.T.Measured.measured g.T.Measure.Monoid.unit_value parts g.F.Fn c.args.test.now _ c.in-Open.ensures.sought in
     all_open laws g.T.Measured.measured g.T.Measure.Monoid.unit_value parts g.F.Fn c.args.test.now near.0 _ _ _ near.1 c.passed-next.ensures.value
     c.passes-2.ensures _ _ c.passed-all.ensures.value c.passes-3.ensures c.if-passes-3.false (omega (arith, root.sizes, c.in-Open.ensures.sought.end.1))
-
-pub returns-else-passes-3-clause-fits : goal.returns-else-passes-3-clause-fits
-returns-else-passes-3-clause-fits g t c = omega arith
-
-pub returns-else-passes-3-clause-few : goal.returns-else-passes-3-clause-few
-returns-else-passes-3-clause-few g t c = c.len.ensures.few
-
-pub returns-else-passes-3-clause-none_lost : goal.returns-else-passes-3-clause-none_lost
-returns-else-passes-3-clause-none_lost g t c = omega (arith, c.in-Some.ensures.1, c.in-Open.ensures.none_lost)
-
-pub returns-else-passes-3-clause-some : goal.returns-else-passes-3-clause-some
-returns-else-passes-3-clause-some g t c = λ within. omega (arith, c.in-Some.ensures.1, c.in-Open.ensures.none_lost)
 
 pub returns-else-passes-3-clause-visits : goal.returns-else-passes-3-clause-visits
 returns-else-passes-3-clause-visits g t c = one_near (c.sides.ensures _ c.in-Some.ensures.0) _ _ c.in-Some.ensures.1 _ c.in-Open.ensures.visits
