@@ -13,6 +13,7 @@ use Rattle.pq_fusion.specs.declared.interval.Middle.{Middle}
 use Rattle.pq_fusion.specs.Bounds.{is_below, at_rank, last_of}
 use Rattle.pq_fusion.specs.Chunks.{entries_of}
 use Rattle.pq_fusion.specs.Intervals.{AreLent, IsHalf, IsMiddle, IsInterval, before_middle, behind_middle}
+use Rattle.pq_fusion.specs.Searches.{SearchesBoth}
 use Rattle.pq_fusion.proofs.Bounded.{further}
 use Rattle.pq_fusion.proofs.Parted.{rank_in, rank_some}
 use Rattle.pq_fusion.proofs.Begun.{chunks_few}
@@ -253,6 +254,23 @@ pub record AreLeft (own other : Interval) (start steps k : ℕ) : Type 0 where
   pub other_left : IsLeftOf other other_turns
   pub few : steps + (turns + other_turns) ≤ start + 4 * k
 
+left_few : (own other : Interval) (start steps k : ℕ) → AreLeft own other start steps k → steps ≤ start + 4 * k
+left_few own other start steps k left = omega (arith, left.few)
+
+-- with each turn fewer chunks and places are left
+abbrev pub left_in : Interval → ℕ
+left_in interval = (interval.last - interval.first) + (interval.high - interval.low)
+
+half_falls : (interval part : Interval) → IsHalf interval part → left_in part < left_in interval
+half_falls interval part (inl chunks) = omega (arith, chunks.0, chunks.1)
+half_falls interval part (inr places) = omega (arith, places.0, places.1)
+
+pub own_falls : (own part other made : Interval) → made ≡ part → IsHalf own part → left_in made + left_in other < left_in own + left_in other
+own_falls own part other made same half = subst (λ (p : Interval). left_in p + left_in other < left_in own + left_in other) (sym same) (omega (arith, half_falls own part half))
+
+pub other_falls : (own other part made : Interval) → made ≡ part → IsHalf other part → left_in own + left_in made < left_in own + left_in other
+other_falls own other part made same half = subst (λ (p : Interval). left_in own + left_in p < left_in own + left_in other) (sym same) (omega (arith, half_falls other part half))
+
 own_turn : (own part other : Interval) (start steps next k : ℕ) → IsHalf own part → next ≡ steps + 1 → AreLeft own other start steps k → AreLeft part other start next k
 own_turn own part other start steps next k half one left =
     let after = half_interval own part left.turns half left.left in record {
@@ -376,3 +394,10 @@ module _ {A : Type 0} where
       let split = sought_second (entries_of xs) (entries_of ys) rank own.low own.high other.low other.high splitting.sought over in
       subst (λ l. AreSplit first l (rank - other.low) (rank - (rank - other.low))) second_is
       (subst (λ l. AreSplit l (entries_of ys) (rank - other.low) (rank - (rank - other.low))) first_is split.1)
+
+  -- the turns, in both lists
+  pub split_visits : (xs ys : List (Vec Entry A)) (first second : List Entry) (rank : ℕ) (own other : Interval) (start steps : ℕ) → entries_of xs ≡ first → entries_of ys ≡ second
+      → IsSplitting xs ys rank own other start steps → SearchesBoth 4 first second start steps
+  split_visits xs ys first second rank own other start steps first_is second_is splitting k small other_small =
+      let left = splitting.visits k (omega (arith, small, ap length first_is)) (omega (arith, other_small, ap length second_is)) in
+      record { none_lost = splitting.none_lost; few = left_few own other start steps k left }
