@@ -1,4 +1,5 @@
 use Rattle.std.proofs.Common.{length, ap, ◌∙◌, arith, sym}
+use Rattle.std.specs.List.{remove}
 use Rattle.pq_fusion.specs.Wear.{WornRows}
 use Rattle.pq_fusion.proofs.Walked.{queue_visits, row_and_tree, row_visits, tree_and_queue, tree_visits}
 use Rattle.pq_fusion.proofs.Worn.{rare_seen}
@@ -23,3 +24,7 @@ returns-clause-visits g c =
     tree_and_queue n _ c.row_at-row.new.steps c.edit.new.steps _ (row_visits n c.self.inside.rows.rows _ _ (omega (arith, size)) c.row_at-row.ensures.visits)
     (tree_visits n c.self.inside.rows.rows _ _ (omega (arith, size)) c.edit.ensures.visits)
     (queue_visits n (length c.self.inside.queue) _ _ (omega (arith, size, ap length c.self.invariant)) c.remove.ensures.visits)
+
+pub invariant_of-self-2 : goal.invariant_of-self-2
+invariant_of-self-2 g c =
+    c.in_ok-edit.ensures.rows ∙ ap (λ rows. remove rows c.args.place) c.self.invariant ∙ sym c.remove.ensures.rows
