@@ -29,3 +29,16 @@ there_later (x ∷ earlier) later zero row beyond there = absurd (omega (arith, 
 there_later (x ∷ earlier) later (suc place) row beyond there =
     ap (slice_get later) (let same : suc place - suc (length earlier) ≡ place - length earlier = omega arith in same)
     ∙ there_later earlier later place row (omega (arith, beyond)) there
+
+-- and a row that stands in one of the parts
+pub earlier_there : (earlier later : List Row) (place : ℕ) (row : Row) → place < length earlier → slice_get earlier place ≡ Some row → slice_get (earlier ++ later) place ≡ Some row
+earlier_there [] later place row within there = absurd (omega (arith, within))
+earlier_there (x ∷ earlier) later zero row within there = there
+earlier_there (x ∷ earlier) later (suc place) row within there = earlier_there earlier later place row (omega (arith, within)) there
+
+pub later_there : (earlier later : List Row) (place : ℕ) (row : Row) → length earlier ≤ place → slice_get later (place - length earlier) ≡ Some row
+    → slice_get (earlier ++ later) place ≡ Some row
+later_there [] later place row beyond there = ap (slice_get later) (let same : place ≡ place - 0 = omega arith in same) ∙ there
+later_there (x ∷ earlier) later zero row beyond there = absurd (omega (arith, beyond))
+later_there (x ∷ earlier) later (suc place) row beyond there = later_there earlier later place row (omega (arith, beyond))
+    (ap (slice_get later) (let same : place - length earlier ≡ suc place - suc (length earlier) = omega arith in same) ∙ there)
