@@ -1,8 +1,8 @@
 -- Lists around a middle item: where a place falls before it, at it, or after it.
-use Rattle.std.proofs.Common.{◌≡◌, ℕ, zero, suc, ◌+◌, ◌-◌, ◌<◌, ◌≤◌, List, [], ◌∷◌, ◌++◌, length, length-append, refl, sym, ap, ◌∙◌, arith}
+use Rattle.std.proofs.Common.{◌≡◌, ℕ, zero, suc, ◌+◌, ◌-◌, ◌<◌, ◌≤◌, List, [], ◌∷◌, ◌++◌, length, refl, sym, ap, ◌∙◌, arith}
 use Rattle.std.specs.Prelude.{Some, slice_get, slice_set}
 use Rattle.std.specs.List.{insert, remove}
-use Rattle.std.proofs.lemmas.List.{append-nil, set-append_left, set-append_right}
+use Rattle.std.proofs.lemmas.List.{set-append_left, set-append_right}
 use Rattle.std.proofs.Math.Seq.{set-append_seam}
 use Rattle.std.proofs.lemmas.Option.{slice_get_within, get_or_from_slice_get}
 use Rattle.std.proofs.lemmas.List.Edits.{insert-append_left, insert-append_right, remove-append_left, remove-append_right}
@@ -70,14 +70,3 @@ get-after before after middle place beyond =
 pub next-then-rest : {A : Type 0} (after : List A) (next : A) → slice_get after 0 ≡ Some next → next ∷ remove after 0 ≡ after
 next-then-rest [] next is = absurd (omega (arith, slice_get_within [] 0 next is))
 next-then-rest (x ∷ after) next is = ap (λ y. y ∷ after) (sym (get_or_from_slice_get (x ∷ after) 0 next next is))
-
--- the last item, behind the others
-module _ {A : Type 0} (items before : List A) (last : A) (place : ℕ) (same : items ≡ before ++ last ∷ []) (end : length items ≡ place + 1) where
-  place_is : length before ≡ place
-  place_is = omega (arith, ap length same, length-append before (last ∷ []))
-
-  pub get-last : slice_get items place ≡ Some last
-  get-last = ap (slice_get items) (sym place_is) ∙ ap (λ xs. slice_get xs (length before)) same ∙ get-middle before [] last
-
-  pub remove-last : before ≡ remove items place
-  remove-last = sym (ap (remove items) (sym place_is) ∙ ap (λ xs. remove xs (length before)) same ∙ remove-middle before [] last ∙ append-nil before)

@@ -1,11 +1,10 @@
-use Rattle.std.proofs.Common.{rules, ◌≡◌, ◌+◌, ◌-◌, refl, arith, ◌∙◌, ◌∷◌, ◌++◌, ap, sym, subst, length}
+use Rattle.std.proofs.Common.{rules, ◌≡◌, ◌-◌, refl, arith, ◌∙◌, ◌∷◌, ◌++◌, ap, sym, subst, length}
 use Rattle.std.specs.List.{remove}
 use Rattle.std.specs.Prelude.{slice_get, Some}
-use Rattle.weighted_tree.specs.Nodes.{nodes_of, part_of, node_items, node_count, IsSound}
-use Rattle.weighted_tree.proofs.Descents.{sizes_of}
+use Rattle.weighted_tree.specs.Nodes.{nodes_of, part_of, node_items, IsSound}
 use Rattle.weighted_tree.proofs.InPlace.{root_of}
-use Rattle.weighted_tree.proofs.Levels.{level_left, level_right, level_end}
-use Rattle.weighted_tree.proofs.Middles.{get-before, get-middle, get-after, remove-before, remove-middle, remove-after, next-then-rest, get-last, remove-last}
+use Rattle.weighted_tree.proofs.Levels.{level_left, level_right}
+use Rattle.weighted_tree.proofs.Middles.{get-before, get-middle, get-after, remove-before, remove-middle, remove-after, next-then-rest}
 use Rattle.weighted_tree.proofs.Told.{told_without}
 use Rattle.weighted_tree.proofs.subtree.Subtree.+remove_below.Goals as goal
 use Rattle.weighted_tree.proofs.subtree.Subtree.+remove_below.Goals.{then-place-before, else-place-before+then-place-before-2, else-place-before+else-place-before-2+then-len-gt0}
@@ -23,57 +22,6 @@ returns-in_default g t c =
       some = omega (arith, done.visit);
       visits = λ levels within. omega (arith, done.visit);
     })
-
-pub returns-else-len-gt0-clause-item : goal.returns-else-len-gt0-clause-item
-returns-else-len-gt0-clause-item g t c =
-    let node = c.in-Full.closed.node.value in
-    let opened = c.deref_mut-node.ensures.value ∙ ap (λ b. b.value) c.open_mut.ensures.node in
-    let sound = subst (IsSound g.T.Measure.Monoid.unit_value g.T.Measure.Monoid.joined g.T.Measured.measured) c.in-Full.is c.self.invariant in
-    let root = root_of sound (sym (ap part_of c.in-Full.is) ∙ c.self.view_is) in
-    let before = ap (λ n. length n.left.items) opened in
-    let after = ap (λ n. length n.right.items) opened in
-    let removed = root.items_are ∙ ap node_items (sym opened) ∙ c.remove_last.ensures.items in
-    let end : length c.args.self.now.items ≡ c.args.place + 1 = omega (arith, sizes_of c.args.self.now.items node.left.items node.right.items node.item root.items_are) in
-    get-last c.args.self.now.items _ _ c.args.place removed end
-
-pub returns-else-len-gt0-clause-items : goal.returns-else-len-gt0-clause-items
-returns-else-len-gt0-clause-items g t c =
-    let node = c.in-Full.closed.node.value in
-    let opened = c.deref_mut-node.ensures.value ∙ ap (λ b. b.value) c.open_mut.ensures.node in
-    let sound = subst (IsSound g.T.Measure.Monoid.unit_value g.T.Measure.Monoid.joined g.T.Measured.measured) c.in-Full.is c.self.invariant in
-    let root = root_of sound (sym (ap part_of c.in-Full.is) ∙ c.self.view_is) in
-    let before = ap (λ n. length n.left.items) opened in
-    let after = ap (λ n. length n.right.items) opened in
-    let removed = root.items_are ∙ ap node_items (sym opened) ∙ c.remove_last.ensures.items in
-    let end : length c.args.self.now.items ≡ c.args.place + 1 = omega (arith, sizes_of c.args.self.now.items node.left.items node.right.items node.item root.items_are) in
-    remove-last c.args.self.now.items _ _ c.args.place removed end
-
-pub returns-else-len-gt0-clause-shrinks : goal.returns-else-len-gt0-clause-shrinks
-returns-else-len-gt0-clause-shrinks g t c =
-    let node = c.in-Full.closed.node.value in
-    let opened = c.deref_mut-node.ensures.value ∙ ap (λ b. b.value) c.open_mut.ensures.node in
-    let sound = subst (IsSound g.T.Measure.Monoid.unit_value g.T.Measure.Monoid.joined g.T.Measured.measured) c.in-Full.is c.self.invariant in
-    let root = root_of sound (sym (ap part_of c.in-Full.is) ∙ c.self.view_is) in
-    let counts = root.nodes_are ∙ ap node_count (sym opened) ∙ c.remove_last.ensures.nodes in
-    record { no_less = omega (arith, counts); no_more = omega (arith, counts) }
-
-pub returns-else-len-gt0-clause-few : goal.returns-else-len-gt0-clause-few
-returns-else-len-gt0-clause-few g t c =
-    let sound = subst (IsSound g.T.Measure.Monoid.unit_value g.T.Measure.Monoid.joined g.T.Measured.measured) c.in-Full.is c.self.invariant in
-    let root = root_of sound (sym (ap part_of c.in-Full.is) ∙ c.self.view_is) in
-    root.few
-
-pub returns-else-len-gt0-clause-some : goal.returns-else-len-gt0-clause-some
-returns-else-len-gt0-clause-some g t c =
-    omega (arith, c.open_mut.ensures.visit, c.remove_last.ensures.visit)
-
-pub returns-else-len-gt0-clause-visits : goal.returns-else-len-gt0-clause-visits
-returns-else-len-gt0-clause-visits g t c =
-    let node = c.in-Full.closed.node.value in
-    let opened = c.deref_mut-node.ensures.value ∙ ap (λ b. b.value) c.open_mut.ensures.node in
-    let sound = subst (IsSound g.T.Measure.Monoid.unit_value g.T.Measure.Monoid.joined g.T.Measured.measured) c.in-Full.is c.self.invariant in
-    let root = root_of sound (sym (ap part_of c.in-Full.is) ∙ c.self.view_is) in
-    level_end _ node _ _ 0 _ root c.open_mut.ensures.visit (omega (arith, c.remove_last.ensures.visit))
 
 pub settle_told-requires-clause-told : goal.settle_told-requires-clause-told
 settle_told-requires-clause-told g t c =
@@ -164,9 +112,3 @@ returns-clause-visits g t c =
       | else-place-before+then-place-before-2 w ↦ level_right _ node _ _ _ _ root c.open_mut.ensures.visit (rw opened at w.remove_below.ensures.visits) (omega arith)
       | else-place-before+else-place-before-2+then-len-gt0 w ↦ level_right _ node _ _ _ _ root c.open_mut.ensures.visit (rw opened at w.remove_below-next.ensures.visits) (omega arith)
     ]
-
-pub returns-clause-few : goal.returns-clause-few
-returns-clause-few g t c =
-    let sound = subst (IsSound g.T.Measure.Monoid.unit_value g.T.Measure.Monoid.joined g.T.Measured.measured) c.in-Full.is c.self.invariant in
-    let root = root_of sound (sym (ap part_of c.in-Full.is) ∙ c.self.view_is) in
-    root.few
