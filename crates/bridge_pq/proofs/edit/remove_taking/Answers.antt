@@ -6,7 +6,7 @@ use Rattle.bridge_pq.specs.declared.marked_row.MarkedRow.{MarkedRow}
 use Rattle.bridge_pq.specs.MarkedRows.{rows_of}
 use Rattle.bridge_pq.proofs.Places.{map-remove}
 use Rattle.bridge_pq.proofs.Costs.{visits-more}
-use Rattle.bridge_pq.proofs.Edited.{cut-within, cut-taking, lacks-flip}
+use Rattle.bridge_pq.proofs.Edited.{cut-within, cut-taking, few-rows, lacks-flip, possible-cut}
 use Rattle.bridge_pq.proofs.edit.remove_taking.Goals as goal
 
 pub flip_marks-requires : goal.flip_marks-requires
@@ -31,3 +31,18 @@ returns-clause-visits g c =
     (visits-add 60 48 (length c.args.rows.now) _ _ _
     (visits-add 48 12 (length c.args.rows.now) _ _ _ c.gained_without-flip.ensures.visits c.remove.ensures.visits)
     (visits-longer 48 (length c.remove.new.self) _ _ _ shorter c.flip_marks.ensures.visits))
+
+pub gained_without-flip-requires-clause-possible : goal.gained_without-flip-requires-clause-possible
+gained_without-flip-requires-clause-possible g c = possible-cut c.args.rows.now c.args.entries.now c.args.place c.args.row c.requires.bridged c.requires.there
+
+pub gained_without-flip-requires-clause-few : goal.gained_without-flip-requires-clause-few
+gained_without-flip-requires-clause-few g c = few-rows c.args.rows.now c.args.entries.now c.requires.bridged
+
+pub remove-requires : goal.remove-requires
+remove-requires g c = record { within = cut-within c.args.rows.now c.args.entries.now c.requires.bridged c.args.place c.args.row c.requires.there c.requires.replays }
+
+pub returns-clause-bridged : goal.returns-clause-bridged
+returns-clause-bridged g c = c.flip_marks.ensures.bridged
+
+pub returns-clause-change : goal.returns-clause-change
+returns-clause-change g c = c.gained_without-flip.ensures.flips.changes
