@@ -3,12 +3,11 @@ use Rattle.pq_fusion.specs.declared.row_edit.RowEdit.{RowEdit}
 use Rattle.pq_fusion.specs.declared.subtree.Link.{Link}
 use Rattle.pq_fusion.specs.declared.subtree.Pair.{Pair}
 use Rattle.pq_fusion.specs.Bounds.{higher, lower}
-use Rattle.pq_fusion.specs.Nodes.{pair_part, pair_rows, part_of}
+use Rattle.pq_fusion.specs.Nodes.{pair_rows, part_of}
 use Rattle.pq_fusion.specs.Passages.{with_piece}
 use Rattle.pq_fusion.specs.RowEdits.{CanBeMade, IsPossible, PassesBy, count_after, edited, past}
 use Rattle.pq_fusion.specs.Searches.{EditVisits, SearchesWithin}
 use Rattle.pq_fusion.specs.Wear.{WornRows}
-use Rattle.pq_fusion.specs.WearLevels.{AnewOnLevels}
 use Rattle.pq_fusion.proofs.Edged.{passes_first, passes_second}
 use Rattle.pq_fusion.proofs.Edited.{edited_pair, few_edited, piece_after}
 use Rattle.pq_fusion.proofs.RowEdits.{behind_first, near_after, possible_first, possible_second, side_found}
@@ -41,19 +40,6 @@ edit::edit_row-returns-in-Ok-clause-edited g t c =
     c.args.edit c.requires.possible c.gains-gains.result c.of_row.result c.in-Ok.passed c.gains-gains.ensures c.of_row.ensures c.in-Ok.ensures.passed
     c.requires.bears below _ c.after.result c.after.ensures.piece c.after.ensures.passes
     (ap (λ (p : Pair). with_piece p c.after.result) made) c.in-Ok.ensures.ok
-
-pub edit::edit_row-returns-in-Ok-clause-rare : goal.edit::edit_row-returns-in-Ok-clause-rare
-edit::edit_row-returns-in-Ok-clause-rare g t c =
-    let is = ap (λ (p : Pair). with_piece p c.in_ok-pair.field-0.piece) c.deref_mut.ensures.value ∙ c.in_ok-pair.ensures in
-    let made : pair_part c.edit_below.new.self ≡ pair_part c.deref_mut-in-Ok-2.result.now =
-    sym (ap pair_part c.deref_mut-in-Ok-2.ensures.value ∙ ap (λ (p : Pair). pair_part p) c.deref_mut-in-Ok.ensures.value) in
-    subst (λ (p : WornRows). AnewOnLevels (pair_part c.args.pair.value) p c.args.anew.now c.edit_below.new.anew) made
-    (subst (λ (p : WornRows). AnewOnLevels p (pair_part c.edit_below.new.self) c.args.anew.now c.edit_below.new.anew) (ap pair_part is) c.in-Ok.ensures.rare)
-
-pub edit::edit_row-returns-in-Err-clause-edited : goal.edit::edit_row-returns-in-Err-clause-edited
-edit::edit_row-returns-in-Err-clause-edited g t c =
-    ap (with_piece c.deref_mut-in-Err.result.now) c.into_piece.ensures
-    ∙ ap (λ (p : Pair). with_piece p c.in_ok-pair.field-0.piece) (c.deref_mut-in-Err.ensures.value ∙ c.in-Err.ensures.err ∙ c.deref_mut.ensures.value) ∙ c.in_ok-pair.ensures
 
 pub edit::edit_row-returns-in-Err-clause-visits : goal.edit::edit_row-returns-in-Err-clause-visits
 edit::edit_row-returns-in-Err-clause-visits g t c =
