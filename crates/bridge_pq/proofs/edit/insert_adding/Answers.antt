@@ -10,7 +10,7 @@ use Rattle.bridge_pq.specs.MarkedRows.{rows_of}
 use Rattle.bridge_pq.proofs.Places.{map-insert}
 use Rattle.bridge_pq.proofs.Costs.{visits-more}
 use Rattle.bridge_pq.proofs.EntryEdits.{one_longer}
-use Rattle.bridge_pq.proofs.Edited.{possible-add, new-absent, few-entries, few-rows, put-adding, put-gained, lacks-flip}
+use Rattle.bridge_pq.proofs.Edited.{possible-add, new-absent, few-entries, put-adding, put-gained, lacks-flip}
 use Rattle.bridge_pq.proofs.edit.insert_adding.Goals as goal
 
 pub gained_with-flip-requires-clause-possible : goal.gained_with-flip-requires-clause-possible
@@ -89,15 +89,3 @@ returns-clause-visits g c =
     (visits-longer 48 (length c.args.rows.now) _ _ _ (omega (arith, flip)) c.gained_with-flip.ensures.visits)
     (visits-longer 36 (length put) _ _ _ (omega (arith, flip, longer)) c.in_ok-put_row_with_entry-2.ensures.ok_visits))
     (visits-longer 48 (length put) _ _ _ (omega (arith, flip, longer)) c.flip_marks.ensures.visits))
-
-pub gained_with-flip-requires-clause-few : goal.gained_with-flip-requires-clause-few
-gained_with-flip-requires-clause-few g c = few-rows c.args.rows.now c.args.entries.now c.requires.bridged
-
-pub returns-then-flip-place-clause-change : goal.returns-then-flip-place-clause-change
-returns-then-flip-place-clause-change g c = c.gained_with-flip.ensures.flips.changes
-
-pub returns-clause-bridged : goal.returns-clause-bridged
-returns-clause-bridged g c = c.flip_marks.ensures.bridged
-
-pub returns-clause-change : goal.returns-clause-change
-returns-clause-change g c = c.gained_with-flip.ensures.flips.changes

@@ -1,6 +1,6 @@
 use Rattle.std.proofs.Common.{◌≡◌, ◌+◌, ◌<◌, ◌≤◌, length, ap, ◌∙◌, arith, sym, subst}
 use Rattle.std.proofs.lemmas.List.Edits.{length-insert}
-use Rattle.std.specs.List.{insert, remove}
+use Rattle.std.specs.List.{remove}
 use Rattle.retro_base.specs.declared.kind.Kind.TheVariants.{Pq}
 use Rattle.retro_base.specs.EditedLists.{remove-insert}
 use Rattle.retro_base.specs.InsertedLaws.{kind_for}
@@ -49,21 +49,3 @@ returns-clause-visits g c =
     let size = ap length c.in_ok-change.ensures.rows ∙ length-insert c.args.queue.now c.args.place c.args.row c.requires.within in
     queue_and_tree n _ c.insert.new.steps _ (queue_visits n (length c.insert.new.self) _ _ (omega (arith, size)) c.insert.ensures.visits)
     (tree_visits n c.args.rows.now.rows _ _ (omega (arith, ap length c.requires.same)) c.edit.ensures.visits)
-
-pub returns-in_err-change-clause-same : goal.returns-in_err-change-clause-same
-returns-in_err-change-clause-same g c = c.requires.same ∙ sym c.in_err-change.ensures.err
-
-pub returns-clause-rows : goal.returns-clause-rows
-returns-clause-rows g c = c.in_ok-change.ensures.rows
-
-pub returns-clause-replayable : goal.returns-clause-replayable
-returns-clause-replayable g c = c.in_ok-change.ensures.replayable
-
-pub returns-clause-change : goal.returns-clause-change
-returns-clause-change g c = c.in_ok-change.ensures.change
-
-pub returns-clause-same : goal.returns-clause-same
-returns-clause-same g c = c.in_default.ensures.rows ∙ ap (λ rows. insert rows c.args.place c.args.row) c.requires.same ∙ sym c.in_ok-change.ensures.rows
-
-pub returns-clause-rare : goal.returns-clause-rare
-returns-clause-rare g c = c.in_default.ensures.rare
