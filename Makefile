@@ -2,7 +2,7 @@
 #
 #   make try      answers a first script in front of you within a minute or two, by a trial build: it proves nothing, and leaves
 #                 no program. SCRIPT=FILE for another one; the tool reads its input whole first, so none can be typed
-#   make run      the same by the proved program, which it builds first: all that it stands on is proved, in half an hour or more
+#   make run      the same by the proved program, which it builds first: all that it stands on is proved, in a quarter of an hour to an hour
 #   make build    leaves the program at build/retro, so that `build/retro run < FILE` works on any script
 #   make libraries  proves all libraries side by side and keeps what came of it, which the daily work on a crate begins with
 #   make check    proves one crate over what was proved before: make check CRATE=retro_queue
@@ -45,7 +45,7 @@ try:
 build: build/retro
 
 said:
-	@echo "First all that the program stands on is proved and built, unless that was done: half an hour or more. \`make try\` proves nothing."
+	@echo "First all that the program stands on is proved and built, unless that was done: a quarter of an hour to an hour. \`make try\` proves nothing."
 
 # A program is built only once it is proved.
 build/retro: $(SOURCES)

@@ -119,7 +119,7 @@ class Interrupted(unittest.TestCase):
             retro.new("p", "pq")
             for start in range(60):
                 forms = ["; a", "z%dx%%d ask size" % start, "p at 5 ins 3", "p undo", "timeline b queue next 2", "#1 5 deq", "end", "save p"]
-                lines = [form % at if "%d" in form else form for at in range(700) for form in forms]
+                lines = [form % at if "%d" in form else form for at in range(2_000) for form in forms]
                 try:
                     with alarm(draws.random() * 0.03):
                         for reply, line in zip(retro.stream(lines), lines):

@@ -471,7 +471,10 @@ class Processes(Journals):
         try:
             with Journal(self.path, PROGRAM, fsync=False) as retro:
                 retro.line("new q queue")
-                for number in range(60):
+                # the faster the processor, the more lines are answered before an alarm rings
+                for number in range(20_000):
+                    if number >= 60 and rung > 5:
+                        break
                     try:
                         signal.setitimer(signal.ITIMER_REAL, 0.00001 + draws.random() * 0.002)
                         retro.line("q at 5 enq %d" % number)
