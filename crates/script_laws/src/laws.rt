@@ -36,13 +36,14 @@ pub fn changes_alone_hold_the_present()
     mirrors_hold_the_present();
 }
 
-/// Whoever is left after the lines of a script has heard of all that their answers changed: what it reports from then on is what it
-/// reports after the events among them.
+/// Whoever is left after the lines of a script has heard each event among their answers: from then on it reports what the follower of
+/// the start reports after these events.
 pub fn who_is_left_has_heard_all()
     ensures { WhoIsLeftHasHeardAll }
 {}
 
-/// A mirror of a name that is left after the lines of a script reports the entries that the priority queue of this name then holds.
+/// A mirror that starts without events and is left after the lines of a script reports the entries that the priority queue of its name
+/// then holds.
 pub fn mirrors_report_the_present()
     ensures { MirrorsReportThePresent }
 {

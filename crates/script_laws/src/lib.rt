@@ -6,11 +6,13 @@
 //! - `what_is_written_is_accepted`: the judge of evidence accepts all that a script writes (specs/Accepted.antt).
 //! - `changes_alone_hold_the_present`, `who_is_left_has_heard_all`, `mirrors_report_the_present`: whoever sees the changes alone
 //!   holds the present, and who follows a script hears of all of them (specs/Mirrored.antt).
-//! - `saved_text_reads_back`: a saved timeline, cut into lines, is a block that comes to the same one (specs/SavedText.antt).
-//! - `own_lines_are_answered_alone`: a timeline's own lines are answered as they would be alone (specs/OwnLines.antt).
+//! - `saved_text_reads_back`: a saved timeline, cut into lines, is a block that comes to the same rows, under the same name, kind and
+//!   next number (specs/SavedText.antt).
+//! - `own_lines_are_answered_alone`: a timeline's own lines are answered as they would be alone, as long as no `new` and no block is
+//!   refused because there are too many timelines (specs/OwnLines.antt).
 //! - `fused_queues_answer_alike`: `pqf` for `pq` changes no answer (specs/FusedLines.antt).
 //!
-//! Each is a function without a body: its clause is the law.
+//! Each is a function that takes and gives nothing: its clause is the law, and its body calls at most the laws that the proof uses.
 //!
 //! - `laws`: all of them.
 #![tactic(auto)]
