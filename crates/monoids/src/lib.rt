@@ -8,8 +8,8 @@
 //! Where the value tells what is left of a range without some of its items, or what it is with more among them, it says so by
 //! `without` and `with`, so that an item that goes or comes costs no look at the others.
 //!
-//! Each value knows how many items it was made of. That number fits 32 bits, and bounds every other
-//! field, so that no sum wraps: joining asks for nothing else.
+//! Each value knows how many items it was made of. That number fits 32 bits, and joining asks only that the two numbers together
+//! still do. In the measures of `monoid_laws` it bounds the other fields, so that no sum wraps.
 //!
 //! Contracts say what a value means by the list that it was made of: `measure_of` of
 //! specs/Measure.antt joins the values of a list's items. specs/MeasureLaws.antt has what the laws give of it, for the proofs of

@@ -20,7 +20,7 @@ pub trait AnyBench: Drop {
 
     /// Does what a line asks for. Of a line that is too long its first bytes are given, as many as a line may have, and `long` says
     /// that it has more. The lines that answer take the place of what `answer` holds, and the result is whether the line was refused.
-    /// After `NoMemory` the line is done, or not, or in part, nothing is known of what `answer` holds, and the bench is spent.
+    /// After `NoMemory` nothing is known of the timelines nor of what `answer` holds, and the bench is spent.
     fn line_into(&mut self, line: &[u8], long: bool, answer: &mut Text) -> Result<bool, NoMemory>
         requires within { length line.now ≤ longest_line }
         requires full { IsTrue long → length line.now ≡ longest_line }

@@ -64,8 +64,8 @@ impl<R: AnyStructure> Bench<R> {
     }
 
     /// Does what a line asks for. Of a line that is too long its first bytes are given, as many as a line may
-    /// have, and `long` says that it has more. After `NoMemory` the line is done, or not, or in part, its answer is
-    /// lost, and the bench is spent.
+    /// have, and `long` says that it has more. After `NoMemory` nothing is known of the timelines, the answer is lost,
+    /// and the bench is spent.
     pub fn line(&mut self, line: &[u8], long: bool) -> Result<Reply, NoMemory>
         requires within { length line.now ≤ longest_line }
         requires full { IsTrue long → length line.now ≡ longest_line }

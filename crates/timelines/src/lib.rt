@@ -1,7 +1,7 @@
 //! The timelines that a script has made, what becomes of a command, and the bench, which does line after line.
 //!
-//! A line is one event: it is read, and done whole or refused whole by the timelines that it is about, or it belongs to the block that
-//! is being read.
+//! A line is one event: it is read, and done whole or refused whole, unless memory runs out, by the timeline that it is about, or it
+//! belongs to the block that is being read.
 //!
 //! A command is tested in a fixed order, and done whole or refused whole. A timeline keeps its rows with their times and numbers,
 //! beside the structure that performs them; the structure judges each edit before anything is changed. Which structures these are
